@@ -1,0 +1,19 @@
+-- Laws of events. Assumes nothing.
+use mathlib.Core.Bool.{Bool, _&&_}
+use mathlib.Core.List.{List, [], _∷_}
+use Prim.Native.Nat.{ℕ, zero, suc, _<_}
+use native.Mathlib.Omega.{arith}
+use lib.Dec.{T, leb, leb→le}
+use lib.ListN.{take, drop}
+use lib.Seq.{slice}
+use Rattle.event.specs.Event.{isEvent, Word, Events}
+use Rattle.event.proofs.Tests.{and-split}
+
+-- an event lies between the signs `1` and `|` of a rule, and so is none of its signs
+pub event-between : (b : ℕ) → T (isEvent b) → (49 < b) × (b < 124)
+unfolding isEvent
+event-between b h =
+    let p = and-split (leb 97 b) (leb b 122) h in
+    let l = leb→le 97 b (p .0) in
+    let u = leb→le b 122 (p .1) in
+    omega arith

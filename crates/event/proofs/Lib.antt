@@ -1,0 +1,3 @@
+-- Laws of tests and of events.
+pub mod Tests
+pub mod EventLaws

@@ -1,0 +1,2 @@
+-- What an event is.
+pub mod Event

@@ -1,0 +1,10 @@
+// Events: the letters that a reader can report. The one test of the alphabet.
+ghost use mathlib.Core.Path.{_≡_};
+ghost use Rattle.event.specs.Event.{isEvent};
+
+// Whether a byte is an event.
+pub fn is_event(b: u8) -> bool
+    ensures { λ r. ⌜ r ≡ isEvent b ⌝ }
+{
+    97 <= b && b <= 122
+}

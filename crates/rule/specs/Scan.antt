@@ -1,0 +1,50 @@
+-- The scan: one byte after another, with the number of open parentheses, and whether an operand has just ended.
+use Prim.Native.Nat.{ℕ, _+_, _-_}
+use mathlib.Core.List.{List, [], _∷_}
+use mathlib.Core.Bool.{Bool, true, false, cond}
+use lib.Dec.{leb, eqb}
+use Rattle.rule.specs.Bytes.{isLeaf}
+use Rattle.rule.specs.declared.ScanState.{ScanState}
+use Rattle.rule.specs.declared.ScanStep.{ScanStep}
+use Rattle.rule.specs.declared.ScanStep.the-variants.{Stuck, Next}
+use Rattle.rule.specs.declared.ScanResult.{ScanResult}
+use Rattle.rule.specs.declared.ScanResult.the-variants.{Sentence, Broken}
+
+abbrev pub to : ℕ → Bool → ℕ → ℕ → ScanStep
+to d a m k = Next (record { depth = d; ended = a; nodes = m; specials = k })
+
+-- the step after an operand, and where an operand is expected
+abbrev pub stepAfter : ℕ → ℕ → ℕ → ℕ → ScanStep
+stepAfter d m k b =
+    cond (eqb b 42) (to d true (m + 1) k)
+    (cond (eqb b 124) (to d false (m + 1) k)
+    (cond (eqb b 38) (to d false (m + 1) (k + 1))
+    (cond (eqb b 41) (cond (eqb d 0) Stuck (to (d - 1) true m k))
+    (cond (eqb b 33) (to d false (m + 2) (k + 1))
+    (cond (eqb b 40) (to (d + 1) false (m + 1) k)
+    (cond (isLeaf b) (to d true (m + 2) k) Stuck))))))
+
+abbrev pub stepBefore : ℕ → ℕ → ℕ → ℕ → ScanStep
+stepBefore d m k b =
+    cond (eqb b 33) (to d false (m + 1) (k + 1))
+    (cond (eqb b 40) (to (d + 1) false m k)
+    (cond (isLeaf b) (to d true (m + 1) k) Stuck))
+
+abbrev pub stepOf : ScanState → ℕ → ScanStep
+stepOf q b = cond (q .ended) (stepAfter (q .depth) (q .nodes) (q .specials) b) (stepBefore (q .depth) (q .nodes) (q .specials) b)
+
+-- the end of the text
+abbrev pub finish : ℕ → ScanState → ScanResult
+finish i q = cond (q .ended) (cond (eqb (q .depth) 0) (Sentence (q .nodes) (q .specials)) (Broken i)) (Broken i)
+
+-- what follows a step: the place where it was stuck, or the rest of the text
+abbrev pub onward : (ℕ → ScanState → ScanResult) → ℕ → ScanStep → ScanResult
+onward rest i Stuck = Broken i
+onward rest i (Next p) = rest (i + 1) p
+
+unfoldable pub scanFrom : List ℕ → ℕ → ScanState → ScanResult
+scanFrom [] i q = finish i q
+scanFrom (b ∷ s) i q = onward (scanFrom s) i (stepOf q b)
+
+abbrev pub scanned : List ℕ → ScanResult
+scanned s = scanFrom s 0 (record { depth = 0; ended = false; nodes = 0; specials = 0 })

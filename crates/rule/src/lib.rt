@@ -1,0 +1,39 @@
+// Rules: the records of a rule's nodes, and the state of the scan over a rule text.
+
+// What a node is. A letter's kind carries the letter.
+pub enum Kind {
+    Empty,
+    Epsilon,
+    Letter(u8),
+    Union,
+    Intersection,
+    Concatenation,
+    Complement,
+    Star,
+}
+
+// A node record: the node's byte offset in the rule text, and its kind.
+pub struct Node {
+    pub offset: usize,
+    pub kind: Kind,
+}
+
+// How far a scan has come: the open parentheses, whether an operand has just ended, and the nodes and special nodes so far.
+pub struct ScanState {
+    pub depth: usize,
+    pub ended: bool,
+    pub nodes: usize,
+    pub specials: usize,
+}
+
+// One byte's step of the scan: no sentence begins so, or the next state.
+pub enum ScanStep {
+    Stuck,
+    Next(ScanState),
+}
+
+// What a scan finds: a sentence with its numbers of nodes and of special nodes, or the place where it breaks off.
+pub enum ScanResult {
+    Sentence(usize, usize),
+    Broken(usize),
+}
