@@ -1,0 +1,88 @@
+-- How spans join and part, and what a span that obeys a rule gives. Assumes nothing.
+use mathlib.Core.Path.{_≡_, refl, sym, ap, subst, _∙_}
+use mathlib.Core.List.{List, [], _∷_, _++_, cons-eq-cons}
+use Prim.Native.Nat.{ℕ, zero, suc, _+_, _-_, _≤_, _<_}
+use native.Mathlib.Omega.{arith}
+use lib.ListN.{length, getD, take, drop, length-append, take-append-drop}
+use lib.Seq.{slice, slice-empty, slice-cons, length-slice, take-take, length-take-le, drop-append-le, take-at, drop-at}
+use Rattle.rule.specs.Tree.{Tree, empty, epsilon, letter, union, intersection, concatenation, complement, star}
+use Rattle.event.specs.Event.{Word}
+use Rattle.rule.specs.Lang.{Concat, Power, Lang}
+use Rattle.work.specs.Span.{Obeys}
+
+pub slice-join : (w : Word) (j k l : ℕ) → j ≤ k → k ≤ l → l ≤ length w → slice j k w ++ slice k l w ≡ slice j l w
+slice-join w j k l p q r =
+    let h : j ≤ length (take k w) = rw (length-take-le k w (omega arith)) p in
+    sym (ap (drop j) (sym (take-append-drop k (take l w)) ∙ ap (λ z. z ++ slice k l w) (take-take k l w q)) ∙ drop-append-le j (take k w) (slice k l w) h)
+
+-- the cut of a span's word is a cut of the span
+pub record Parted (w : Word) (j l : ℕ) (u v : Word) : Type 0 where
+  pub mid : ℕ
+  pub low : j ≤ mid
+  pub high : mid ≤ l
+  pub left : slice j mid w ≡ u
+  pub right : slice mid l w ≡ v
+
+pub part : (w : Word) (j l : ℕ) (u v : Word) → j ≤ l → l ≤ length w → slice j l w ≡ u ++ v → Parted w j l u v
+part w j l u v p r e =
+    let n : length u + length v ≡ l - j = sym (length-append u v) ∙ ap length (sym e) ∙ length-slice j l w r in
+    let q : j + length u ≤ l = omega arith in
+    let s : length (slice j (j + length u) w) ≡ length u = length-slice j (j + length u) w (omega arith) ∙ omega arith in
+    let f : u ++ v ≡ slice j (j + length u) w ++ slice (j + length u) l w = sym e ∙ sym (slice-join w j (j + length u) l (omega arith) q r) in
+    record {
+      mid = j + length u;
+      low = omega arith;
+      high = q;
+      left = sym (take-at (slice j (j + length u) w) (slice (j + length u) l w) (length u) s) ∙ ap (take (length u)) (sym f) ∙ take-at u v (length u) refl;
+      right = sym (drop-at (slice j (j + length u) w) (slice (j + length u) l w) (length u) s) ∙ ap (drop (length u)) (sym f) ∙ drop-at u v (length u) refl;
+    }
+
+-- an empty span
+pub slice-nil : (w : Word) (j k : ℕ) → j ≤ k → k ≤ length w → slice j k w ≡ [] → k ≡ j
+slice-nil w j k p r e = let n : 0 ≡ k - j = ap length (sym e) ∙ length-slice j k w r in omega arith
+
+-- a span of one event
+pub slice-one : (w : Word) (j : ℕ) → j < length w → slice j (suc j) w ≡ getD w j 0 ∷ []
+slice-one w j h = slice-cons j (suc j) w 0 (omega arith) h ∙ ap (getD w j 0 ∷_) (slice-empty (suc j) w)
+
+pub one-slice : (w : Word) (j k c : ℕ) → j ≤ k → k ≤ length w → slice j k w ≡ c ∷ [] → (k ≡ suc j) × (getD w j 0 ≡ c)
+one-slice w j k c p r e =
+    let n : 1 ≡ k - j = ap length (sym e) ∙ length-slice j k w r in
+    let m : k ≡ suc j = omega arith in
+    let f : slice j (suc j) w ≡ c ∷ [] = subst (λ z. slice j z w ≡ c ∷ []) m e in
+    (m, cons-eq-cons .0 (sym (slice-one w j (omega arith)) ∙ f) .0)
+
+-- ---- what obeys
+pub epsilon-obeys : (w : Word) (o j : ℕ) → j ≤ length w → Obeys w (epsilon o) j j
+epsilon-obeys w o j h = record { order = omega arith; fits = h; word = slice-empty j w }
+
+pub letter-obeys : (w : Word) (o c j : ℕ) → j < length w → getD w j 0 ≡ c → Obeys w (letter o c) j (suc j)
+letter-obeys w o c j h e = record { order = omega arith; fits = h; word = slice-one w j h ∙ ap (_∷ []) e }
+
+pub concatenation-obeys : (w : Word) (o : ℕ) (a b : Tree) (j k l : ℕ) → Obeys w a j k → Obeys w b k l → Obeys w (concatenation o a b) j l
+concatenation-obeys w o a b j k l p q =
+    record {
+      order = omega (arith, p .order, q .order);
+      fits = q .fits;
+      word = (slice j k w, slice k l w, sym (slice-join w j k l (p .order) (q .order) (q .fits)), p .word, q .word);
+    }
+
+pub obeys-concatenation : (w : Word) (o : ℕ) (a b : Tree) (j l : ℕ) → Obeys w (concatenation o a b) j l → (k : ℕ) × Obeys w a j k × Obeys w b k l
+obeys-concatenation w o a b j l h =
+    let (u, v, e, hu, hv) = h .word in
+    let p = part w j l u v (h .order) (h .fits) e in (
+      p .mid,
+      record { order = p .low; fits = omega (arith, p .high, h .fits); word = rw (p .left) hu },
+      record { order = p .high; fits = h .fits; word = rw (p .right) hv },
+    )
+
+pub star-none : (w : Word) (o : ℕ) (a : Tree) (j : ℕ) → j ≤ length w → Obeys w (star o a) j j
+star-none w o a j h = record { order = omega arith; fits = h; word = (0, slice-empty j w) }
+
+pub star-more : (w : Word) (o : ℕ) (a : Tree) (j k l : ℕ) → Obeys w (star o a) j k → Obeys w a k l → Obeys w (star o a) j l
+star-more w o a j k l p q =
+    record {
+      order = omega (arith, p .order, q .order);
+      fits = q .fits;
+      word = (suc (p .word .0), (slice j k w, slice k l w, sym (slice-join w j k l (p .order) (q .order) (q .fits)), p .word .1, q .word));
+    }

@@ -1,0 +1,60 @@
+-- The span table's numbers. Assumes nothing.
+use mathlib.Core.List.{List, [], _∷_, _++_}
+use mathlib.Core.Bool.{Bool, _&&_}
+use Prim.Native.Nat.{ℕ, _+_, _*_, _/_, _%_}
+use lib.Dec.{leb}
+use lib.ListN.{length}
+use lib.Seq.{slice}
+use Rattle.bits.specs.Bit.{onesOf, packedRun}
+use Rattle.event.specs.Event.{Word}
+use Rattle.rule.specs.Tree.{Tree, empty, epsilon, letter, union, intersection, concatenation, complement, star}
+use Rattle.rule.specs.Accept.{accepts}
+
+-- span (i, j) is one of the word's and obeys
+unfoldable pub obeys : Word → Tree → ℕ → ℕ → Bool
+obeys w t i j = leb i j && leb j (length w) && accepts t (slice i j w)
+
+-- 01: "A block has n + 1 rows of four numbers. In row i, span (i, j) is the bit worth 2 to the power (j modulo 64) of number (j divided by 64, rounded down)."
+-- Counted from the block's first number, 64 bits to a number, that is bit 256 i + j; and bit p is that of span (p / 256, p % 256).
+abbrev pub position : ℕ → ℕ → ℕ
+position i j = 256 * i + j
+
+abbrev pub startOf : ℕ → ℕ
+startOf p = p / 256
+
+abbrev pub endOf : ℕ → ℕ
+endOf p = p % 256
+
+abbrev pub blockLength : ℕ → ℕ
+blockLength n = (n + 1) * 4
+
+-- 01: "The bit is 1 exactly if the span obeys; all other bits are 0."
+unfoldable pub block : Word → Tree → List ℕ
+block w t = packedRun (blockLength (length w)) (λ p. obeys w t (startOf p) (endOf p))
+
+-- 01: "one block for each special node, in rising byte offset: the part of the rule that the node heads, itself included"
+abbrev pub specialParts : Tree → List Tree
+specialParts (empty o) = []
+specialParts (epsilon o) = []
+specialParts (letter o c) = []
+specialParts (union o a b) = specialParts a ++ specialParts b
+specialParts (intersection o a b) = specialParts a ++ (intersection o a b ∷ specialParts b)
+specialParts (concatenation o a b) = specialParts a ++ specialParts b
+specialParts (complement o a) = complement o a ∷ specialParts a
+specialParts (star o a) = specialParts a
+
+abbrev pub blocks : Word → List Tree → List ℕ
+blocks w [] = []
+blocks w (t ∷ l) = block w t ++ blocks w l
+
+-- 01: "The first block is for the whole rule. Then follows one block for each special node"
+unfoldable pub table : Word → Tree → List ℕ
+table w t = blocks w (t ∷ specialParts t)
+
+-- 01: "The judge needs (k + 1) × (n + 1) × 4 numbers"
+abbrev pub needOf : ℕ → ℕ → ℕ
+needOf k n = (k + 1) * blockLength n
+
+-- 01: "The reported found is the number of ones in the first block."
+unfoldable pub found : Word → Tree → ℕ
+found w t = onesOf (block w t)
