@@ -1,13 +1,14 @@
 -- Packed numbers and runs: their bits, their ones, and that their bits determine them. Assumes nothing.
 use mathlib.Core.Path.{_≡_, refl, sym, ap, ap₂, _∙_}
-use mathlib.Core.List.{List, [], _∷_}
+use mathlib.Core.List.{List, [], _∷_, _++_}
 use mathlib.Core.Bool.{Bool, true, false, cond}
 use Prim.Native.Nat.{ℕ, zero, suc, _+_, _*_, _/_, _%_, _^_, _≤_, _<_}
 use native.Mathlib.Omega.{arith}
 use native.Mathlib.Nat.{div-div-eq-div-mul, pow-succ'}
 use lib.Dec.{eqb}
 use lib.Count.{ones, ones-step}
-use lib.ListN.{length, getD}
+use lib.ListN.{length, getD, List·getD-append}
+use lib.Seq.{getD-append-add}
 use borrow.Author.Tests.{eqb-true, eqb-false}
 use Rattle.bits.specs.Bit.{hasBit, bitAt, onesOf, indicator, packed, packedRun}
 use Rattle.bits.proofs.Tally.{tallyBelow, tally-none, tally-add}
@@ -102,3 +103,15 @@ run-ones zero f = sym (tally-none (64 * 0) f (λ r l. absurd (omega arith)))
 run-ones (suc c) f =
     let e : 64 * suc c ≡ 64 + 64 * c = omega arith in
     omega (arith, packed-ones 64 f, run-ones c (λ p. f (64 + p)), tally-add 64 (64 * c) f, ap (λ n. tallyBelow n f) e)
+
+-- ---- two runs, one behind the other
+pub bit-front : (a b : List ℕ) (p : ℕ) → p < 64 * length a → bitAt (a ++ b) p ≡ bitAt a p
+unfolding bitAt
+bit-front a b p h = ap (hasBit (p % 64)) (List·getD-append a b 0 (p / 64) (omega arith))
+
+pub bit-behind : (a b : List ℕ) (p : ℕ) → bitAt (a ++ b) (64 * length a + p) ≡ bitAt b p
+unfolding bitAt
+bit-behind a b p =
+    let q : (64 * length a + p) / 64 ≡ length a + p / 64 = omega arith in
+    let r : (64 * length a + p) % 64 ≡ p % 64 = omega arith in
+    ap₂ (λ m n. hasBit m (getD (a ++ b) n 0)) r q ∙ ap (hasBit (p % 64)) (getD-append-add a b (p / 64) 0)

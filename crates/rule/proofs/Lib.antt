@@ -1,5 +1,6 @@
 -- Laws of rule texts.
 pub mod LangDecided
+pub mod RecordLaws
 pub mod Texts
 pub mod ScanAccepts
 pub mod ScanSound

@@ -3,6 +3,7 @@ use Prim.Native.Nat.{ℕ, zero, suc, _+_, _≤_}
 use native.Mathlib.Omega.{arith}
 use mathlib.Core.Path.{_≡_, refl, sym, ap, ap₂, subst, _∙_}
 use mathlib.Core.List.{List, [], _∷_, _++_}
+use lib.Dec.{T}
 use lib.ListN.{length}
 use Rattle.rule.specs.Tree.{Tree, empty, epsilon, letter, union, intersection, concatenation, complement, star, records, node}
 use Rattle.rule.specs.Grammar.{Alt, Reads}
@@ -11,6 +12,10 @@ use Rattle.rule.specs.TreeOf.{stacked, top, treeOf}
 use Rattle.rule.specs.declared.Kind.{Kind}
 use Rattle.rule.specs.declared.Kind.the-variants.{Empty, Epsilon, Letter, Union, Intersection, Concatenation, Complement, Star}
 use Rattle.rule.specs.declared.Node.{Node}
+use Rattle.rule.specs.Scan.{scanned, finds, isSentence}
+use Rattle.rule.specs.declared.ScanResult.{ScanResult}
+use Rattle.rule.specs.declared.ScanResult.the-variants.{Sentence, Broken}
+use Rattle.rule.proofs.ScanDecides.{Right, scan-right}
 use Rattle.rule.proofs.Parses.{pushes, two, one, parse-whole}
 
 pair : (t r : Tree) (k : Kind) (o : ℕ) (w : Tree) (st : List Tree) → stacked (r ∷ t ∷ st) o k ≡ w ∷ st → pushes stacked st (records t) ≡ t ∷ st → pushes stacked (t ∷ st) (records r) ≡ r ∷ t ∷ st
@@ -39,3 +44,11 @@ tree-is {s} {t} r = ap (λ (x : List Tree × ℕ). top (x .0)) (parse-whole stac
 -- 01: "each [sentence] has one reading"
 pub one-reading : {s : List ℕ} {t r : Tree} → Reads Alt 0 s t → Reads Alt 0 s r → t ≡ r
 one-reading p q = sym (tree-is p) ∙ tree-is q
+
+found-reads : (s : List ℕ) (f : ScanResult) → Right s f → T (finds f) → Reads Alt 0 s (treeOf s)
+found-reads s (Sentence m k) x h = subst (Reads Alt 0 s) (sym (tree-is (x .reads))) (x .reads)
+found-reads s (Broken i) x h = absurd h
+
+-- a text that the scan finds to be a sentence is read as `treeOf` computes
+pub sentence-reads : (s : List ℕ) → T (isSentence s) → Reads Alt 0 s (treeOf s)
+sentence-reads s h = found-reads s (scanned s) (scan-right s) h

@@ -1,8 +1,8 @@
--- The scan: one byte after another, with the number of open parentheses, and whether an operand has just ended.
+-- The scan of a rule text: one byte after another. That it finds exactly the sentences is `scan-right` in proofs/ScanDecides. Assumes nothing.
 use Prim.Native.Nat.{ℕ, _+_, _-_}
 use mathlib.Core.List.{List, [], _∷_}
 use mathlib.Core.Bool.{Bool, true, false, cond}
-use lib.Dec.{leb, eqb}
+use lib.Dec.{eqb}
 use Rattle.rule.specs.Bytes.{isLeaf}
 use Rattle.rule.specs.declared.ScanState.{ScanState}
 use Rattle.rule.specs.declared.ScanStep.{ScanStep}
@@ -10,6 +10,7 @@ use Rattle.rule.specs.declared.ScanStep.the-variants.{Stuck, Next}
 use Rattle.rule.specs.declared.ScanResult.{ScanResult}
 use Rattle.rule.specs.declared.ScanResult.the-variants.{Sentence, Broken}
 
+-- the next state
 abbrev pub to : ℕ → Bool → ℕ → ℕ → ScanStep
 to d a m k = Next (record { depth = d; ended = a; nodes = m; specials = k })
 
@@ -48,3 +49,11 @@ scanFrom (b ∷ s) i q = onward (scanFrom s) i (stepOf q b)
 
 abbrev pub scanned : List ℕ → ScanResult
 scanned s = scanFrom s 0 (record { depth = 0; ended = false; nodes = 0; specials = 0 })
+
+-- the scan finds a sentence
+abbrev pub finds : ScanResult → Bool
+finds (Sentence m k) = true
+finds (Broken i) = false
+
+abbrev pub isSentence : List ℕ → Bool
+isSentence s = finds (scanned s)

@@ -1,5 +1,6 @@
 -- The reading of a rule: its tree, its numbers of nodes, its records. Assumes nothing.
 use Prim.Native.Nat.{ℕ, suc, _+_}
+use mathlib.Core.Bool.{Bool, true, false}
 use mathlib.Core.List.{List, [], _∷_, _++_}
 use Rattle.rule.specs.declared.Kind.{Kind}
 use Rattle.rule.specs.declared.Kind.the-variants.{Empty, Epsilon, Letter, Union, Intersection, Concatenation, Complement, Star}
@@ -15,6 +16,17 @@ pub data Tree : Type 0 where
   concatenation : ℕ → Tree → Tree → Tree
   complement : ℕ → Tree → Tree  -- `!`
   star : ℕ → Tree → Tree  -- `*`
+
+-- the byte offset of the root
+abbrev pub offset : Tree → ℕ
+offset (empty o) = o
+offset (epsilon o) = o
+offset (letter o c) = o
+offset (union o a b) = o
+offset (intersection o a b) = o
+offset (concatenation o a b) = o
+offset (complement o a) = o
+offset (star o a) = o
 
 -- the nodes below the root
 abbrev pub below : Tree → ℕ
@@ -32,6 +44,16 @@ abbrev pub size : Tree → ℕ
 size t = suc (below t)
 
 -- 01: "`&` and `!` nodes are the special ones; k is their number"
+abbrev pub isSpecial : Tree → Bool
+isSpecial (empty o) = false
+isSpecial (epsilon o) = false
+isSpecial (letter o c) = false
+isSpecial (union o a b) = false
+isSpecial (intersection o a b) = true
+isSpecial (concatenation o a b) = false
+isSpecial (complement o a) = true
+isSpecial (star o a) = false
+
 abbrev pub specials : Tree → ℕ
 specials (empty o) = 0
 specials (epsilon o) = 0

@@ -11,3 +11,11 @@ pub mod Decided
 pub mod Bound
 pub mod Sizes
 pub mod WalkSize
+pub mod Owners
+pub mod WorkSize
+pub mod Listed
+pub mod TableLaws
+pub mod Found
+pub mod Order
+pub mod PartRecords
+pub mod KnownDaysHold

@@ -1,14 +1,16 @@
 -- The span table's numbers. Assumes nothing.
+use mathlib.Core.Path.{_≡_}
 use mathlib.Core.List.{List, [], _∷_, _++_}
-use mathlib.Core.Bool.{Bool, _&&_}
-use Prim.Native.Nat.{ℕ, _+_, _*_, _/_, _%_}
+use mathlib.Core.Bool.{Bool, true, _&&_}
+use Prim.Native.Nat.{ℕ, _+_, _*_, _/_, _%_, suc, _≤_, _<_}
 use lib.Dec.{leb}
 use lib.ListN.{length}
 use lib.Seq.{slice}
-use Rattle.bits.specs.Bit.{onesOf, packedRun}
+use Rattle.bits.specs.Bit.{bitAt, onesOf, packedRun}
 use Rattle.event.specs.Event.{Word}
-use Rattle.rule.specs.Tree.{Tree, empty, epsilon, letter, union, intersection, concatenation, complement, star}
+use Rattle.rule.specs.Tree.{Tree, empty, epsilon, letter, union, intersection, concatenation, complement, star, offset}
 use Rattle.rule.specs.Accept.{accepts}
+use Rattle.work.specs.Span.{Obeys}
 
 -- span (i, j) is one of the word's and obeys
 unfoldable pub obeys : Word → Tree → ℕ → ℕ → Bool
@@ -28,7 +30,12 @@ endOf p = p % 256
 abbrev pub blockLength : ℕ → ℕ
 blockLength n = (n + 1) * 4
 
--- 01: "The bit is 1 exactly if the span obeys; all other bits are 0."
+-- 01: "The bit is 1 exactly if the span obeys; all other bits are 0." So says `HoldsBlock` of a run, from its number `first` on, for the part t.
+pub record HoldsBlock (w : Word) (t : Tree) (run : List ℕ) (first : ℕ) : Type 0 where
+  pub spans : (i j : ℕ) → Obeys w t i j → bitAt run (64 * first + position i j) ≡ true
+  pub others : (p : ℕ) → p < 64 * blockLength (length w) → bitAt run (64 * first + p) ≡ true → (i : ℕ) × (j : ℕ) × (p ≡ position i j) × Obeys w t i j
+
+-- the block of the part t, as numbers
 unfoldable pub block : Word → Tree → List ℕ
 block w t = packedRun (blockLength (length w)) (λ p. obeys w t (startOf p) (endOf p))
 
@@ -42,6 +49,11 @@ specialParts (intersection o a b) = specialParts a ++ (intersection o a b ∷ sp
 specialParts (concatenation o a b) = specialParts a ++ specialParts b
 specialParts (complement o a) = complement o a ∷ specialParts a
 specialParts (star o a) = specialParts a
+
+-- the byte offsets of the parts rise, from lo on
+abbrev pub Rising : ℕ → List Tree → Type 0
+Rising lo [] = Unit {0}
+Rising lo (t ∷ l) = (lo ≤ offset t) × Rising (suc (offset t)) l
 
 abbrev pub blocks : Word → List Tree → List ℕ
 blocks w [] = []
