@@ -19,3 +19,4 @@ pub mod Found
 pub mod Order
 pub mod PartRecords
 pub mod KnownDaysHold
+pub mod StateOwners
