@@ -1,11 +1,10 @@
 -- Packed numbers and runs: their bits, their ones, and that their bits determine them. Assumes nothing.
 use mathlib.Core.Path.{_≡_, refl, sym, ap, ap₂, _∙_}
-use mathlib.Core.List.{List, [], _∷_, _++_}
-use mathlib.Core.Bool.{Bool, true, false, cond}
-use Prim.Native.Nat.{ℕ, zero, suc, _+_, _*_, _/_, _%_, _^_, _≤_, _<_}
+use mathlib.Core.List.{List, _++_}
+use mathlib.Core.Bool.{Bool, true, false}
+use Prim.Native.Nat.{ℕ, zero, suc, _+_, _*_, _/_, _%_, _^_, _<_}
 use native.Mathlib.Omega.{arith}
 use native.Mathlib.Nat.{div-div-eq-div-mul, pow-succ'}
-use lib.Dec.{eqb}
 use lib.Count.{ones, ones-step}
 use lib.ListN.{length, getD, List·getD-append}
 use lib.Seq.{getD-append-add}
@@ -81,14 +80,16 @@ run-length (suc c) f = ap suc (run-length c (λ p. f (64 + p)))
 packed-same : (k : ℕ) (f g : ℕ → Bool) → ((r : ℕ) → r < k → f r ≡ g r) → packed k f ≡ packed k g
 unfolding packed
 packed-same zero f g h = refl
-packed-same (suc k) f g h = ap₂ (λ a b. indicator a + 2 * b) (h 0 (omega arith)) (packed-same k (λ r. f (suc r)) (λ r. g (suc r)) (λ r l. h (suc r) (omega arith)))
+packed-same (suc k) f g h = ap₂ (λ a b. indicator a + 2 * b) (h 0 (omega arith))
+    (packed-same k (λ r. f (suc r)) (λ r. g (suc r)) (λ r l. h (suc r) (omega arith)))
 
 pub run-at : (c : ℕ) (f : ℕ → Bool) (q : ℕ) → q < c → getD (packedRun c f) q 0 ≡ packed 64 (λ r. f (64 * q + r))
 unfolding packedRun
 run-at zero f q h = absurd (omega arith)
 run-at (suc c) f zero h = packed-same 64 f (λ r. f (64 * 0 + r)) (λ r l. ap f (omega arith))
 run-at (suc c) f (suc q) h =
-    run-at c (λ p. f (64 + p)) q (omega arith) ∙ packed-same 64 (λ r. f (64 + (64 * q + r))) (λ r. f (64 * suc q + r)) (λ r l. ap f (omega arith))
+    run-at c (λ p. f (64 + p)) q (omega arith) ∙ packed-same 64 (λ r. f (64 + (64 * q + r))) (λ r. f (64 * suc q + r))
+    (λ r l. ap f (omega arith))
 
 -- bit p of the run is f p
 pub run-bit : (c : ℕ) (f : ℕ → Bool) (p : ℕ) → p < 64 * c → bitAt (packedRun c f) p ≡ f p

@@ -1,6 +1,6 @@
 -- How many numbers below a bound pass a test. Assumes nothing.
 use mathlib.Core.Path.{_≡_, refl, ap, ap₂, _∙_}
-use mathlib.Core.Bool.{Bool, true, false, cond}
+use mathlib.Core.Bool.{Bool, false}
 use Prim.Native.Nat.{ℕ, zero, suc, _+_, _<_}
 use native.Mathlib.Omega.{arith}
 use Rattle.bits.specs.Bit.{indicator}
@@ -13,7 +13,8 @@ tallyBelow (suc k) f = indicator (f 0) + tallyBelow k (λ r. f (suc r))
 pub tally-same : (k : ℕ) (f g : ℕ → Bool) → ((r : ℕ) → r < k → f r ≡ g r) → tallyBelow k f ≡ tallyBelow k g
 unfolding tallyBelow
 tally-same zero f g h = refl
-tally-same (suc k) f g h = ap₂ (λ a b. indicator a + b) (h 0 (omega arith)) (tally-same k (λ r. f (suc r)) (λ r. g (suc r)) (λ r l. h (suc r) (omega arith)))
+tally-same (suc k) f g h = ap₂ (λ a b. indicator a + b) (h 0 (omega arith))
+    (tally-same k (λ r. f (suc r)) (λ r. g (suc r)) (λ r l. h (suc r) (omega arith)))
 
 pub tally-none : (k : ℕ) (f : ℕ → Bool) → ((r : ℕ) → r < k → f r ≡ false) → tallyBelow k f ≡ 0
 unfolding tallyBelow

@@ -1,12 +1,8 @@
 -- Laws of events. Assumes nothing.
-use mathlib.Core.Bool.{Bool, _&&_}
-use mathlib.Core.List.{List, [], _∷_}
-use Prim.Native.Nat.{ℕ, zero, suc, _<_}
+use Prim.Native.Nat.{ℕ, _<_}
 use native.Mathlib.Omega.{arith}
 use lib.Dec.{T, leb, leb→le}
-use lib.ListN.{take, drop}
-use lib.Seq.{slice}
-use Rattle.event.specs.Event.{isEvent, Word, Events}
+use Rattle.event.specs.Event.{isEvent}
 use Rattle.event.proofs.Tests.{and-split}
 
 -- an event lies between the signs `1` and `|` of a rule, and so is none of its signs

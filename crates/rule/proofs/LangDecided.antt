@@ -1,11 +1,11 @@
 -- `accepts` decides the language: T (accepts t w) ↔ Lang t w, for every tree and every word. Assumes nothing.
 use mathlib.Core.Path.{_≡_, refl, sym, ap, subst}
 use mathlib.Core.Logic.{_⊎_, inl, inr, ⊎-elim, _↔_}
-use mathlib.Core.List.{List, [], _∷_, _++_, append-nil, append-assoc, nil≢cons, cons≢nil, head-eq-of-cons-eq, tail-eq-of-cons-eq}
-use mathlib.Core.Bool.{Bool, true, false, not, _&&_, _||_}
-use Prim.Native.Nat.{ℕ, zero, suc, _+_, _≤_, _<_}
+use mathlib.Core.List.{[], _∷_, _++_, append-nil, append-assoc, nil≢cons, cons≢nil, head-eq-of-cons-eq, tail-eq-of-cons-eq}
+use mathlib.Core.Bool.{Bool, not, _&&_}
+use Prim.Native.Nat.{ℕ, zero, suc, _≤_}
 use native.Mathlib.Omega.{arith}
-use lib.Dec.{T, leb, eqb, leb→le, le→leb, eqb→eq, eqb-refl, not-T, T-not}
+use lib.Dec.{T, eqb, eqb→eq, eqb-refl, not-T, T-not}
 use lib.ListN.{length, length-append}
 use Rattle.event.specs.Event.{isEvent, Word, Events}
 use Rattle.event.proofs.Tests.{and-split, and-join, or-split, or-left, or-right}
@@ -22,14 +22,16 @@ pub cut-sound : (f g : Word → Bool) (w : Word) → T (cut f g w) → Concat (I
 cut-sound f g [] h = let p = and-split (f []) (g []) h in ([], [], refl, p .0, p .1)
 cut-sound f g (x ∷ w) h = go (or-split (f [] && g (x ∷ w)) (cut (λ u. f (x ∷ u)) g w) h) (cut-sound (λ u. f (x ∷ u)) g w)
   where
-    go : T (f [] && g (x ∷ w)) ⊎ T (cut (λ u. f (x ∷ u)) g w) → (T (cut (λ u. f (x ∷ u)) g w) → Concat (In (λ u. f (x ∷ u))) (In g) w) → Concat (In f) (In g) (x ∷ w)
+    go : T (f [] && g (x ∷ w)) ⊎ T (cut (λ u. f (x ∷ u)) g w) → (T (cut (λ u. f (x ∷ u)) g w) → Concat (In (λ u. f (x ∷ u))) (In g) w)
+        → Concat (In f) (In g) (x ∷ w)
     go (inl p) k = let q = and-split (f []) (g (x ∷ w)) p in ([], x ∷ w, refl, q .0, q .1)
     go (inr p) k = let (u, v, e, hu, hv) = k p in (x ∷ u, v, ap (x ∷_) e, hu, hv)
 
 pub cut-complete : (f g : Word → Bool) (u v : Word) → T (f u) → T (g v) → T (cut f g (u ++ v))
 cut-complete f g [] [] p q = and-join (f []) (g []) p q
 cut-complete f g [] (y ∷ v) p q = or-left (f [] && g (y ∷ v)) (cut (λ u. f (y ∷ u)) g v) (and-join (f []) (g (y ∷ v)) p q)
-cut-complete f g (x ∷ u) v p q = or-right (f [] && g (x ∷ (u ++ v))) (cut (λ z. f (x ∷ z)) g (u ++ v)) (cut-complete (λ z. f (x ∷ z)) g u v p q)
+cut-complete f g (x ∷ u) v p q = or-right (f [] && g (x ∷ (u ++ v))) (cut (λ z. f (x ∷ z)) g (u ++ v))
+    (cut-complete (λ z. f (x ∷ z)) g u v p q)
 
 -- ---- powers
 pub power-map : (L M : Word → Type 0) → ((u : Word) → L u → M u) → (i : ℕ) (w : Word) → Power L i w → Power M i w
@@ -104,7 +106,8 @@ decides (epsilon o) w = isNil-eq w
 decides (letter o c) w = isLetter-eq c w
 decides (union o a b) w = (
   λ h. ⊎-elim (λ p. inl (decides a w .0 p)) (λ q. inr (decides b w .0 q)) (or-split (accepts a w) (accepts b w) h),
-  λ h. ⊎-elim (λ p. or-left (accepts a w) (accepts b w) (decides a w .1 p)) (λ q. or-right (accepts a w) (accepts b w) (decides b w .1 q)) h,
+  λ h. ⊎-elim (λ p. or-left (accepts a w) (accepts b w) (decides a w .1 p))
+      (λ q. or-right (accepts a w) (accepts b w) (decides b w .1 q)) h,
 )
 decides (intersection o a b) w = (
   λ h. let p = and-split (accepts a w) (accepts b w) h in (decides a w .0 (p .0), decides b w .0 (p .1)),
@@ -119,6 +122,7 @@ decides (star o a) w = (
   λ h. joined-complete (accepts a) (h .0) w (power-map (Lang a) (In (accepts a)) (λ u. decides a u .1) (h .0) w (h .1)),
 )
 decides (complement o a) w = (
-  λ h. let p = and-split (areEvents w) (not (accepts a w)) h in (areEvents-eq w .0 (p .0), λ l. T-not (accepts a w) (p .1) (decides a w .1 l)),
+  λ h. let p = and-split (areEvents w) (not (accepts a w)) h in
+      (areEvents-eq w .0 (p .0), λ l. T-not (accepts a w) (p .1) (decides a w .1 l)),
   λ h. and-join (areEvents w) (not (accepts a w)) (areEvents-eq w .1 (h .0)) (not-T (accepts a w) (λ k. h .1 (decides a w .0 k))),
 )

@@ -1,24 +1,23 @@
 -- Each sentence has one reading, and `treeOf` computes it. Assumes nothing.
-use Prim.Native.Nat.{ℕ, zero, suc, _+_, _≤_}
+use Prim.Native.Nat.{ℕ}
 use native.Mathlib.Omega.{arith}
-use mathlib.Core.Path.{_≡_, refl, sym, ap, ap₂, subst, _∙_}
+use mathlib.Core.Path.{_≡_, refl, sym, ap, subst, _∙_}
 use mathlib.Core.List.{List, [], _∷_, _++_}
 use lib.Dec.{T}
-use lib.ListN.{length}
 use Rattle.rule.specs.Tree.{Tree, empty, epsilon, letter, union, intersection, concatenation, complement, star, records, node}
 use Rattle.rule.specs.Grammar.{Alt, Reads}
-use Rattle.rule.specs.Parse.{alt, parse, measure}
+use Rattle.rule.specs.Parse.{alt, measure}
 use Rattle.rule.specs.TreeOf.{stacked, top, treeOf}
 use Rattle.rule.specs.declared.Kind.{Kind}
-use Rattle.rule.specs.declared.Kind.the-variants.{Empty, Epsilon, Letter, Union, Intersection, Concatenation, Complement, Star}
-use Rattle.rule.specs.declared.Node.{Node}
+use Rattle.rule.specs.declared.Kind.the-variants.{Union, Intersection, Concatenation, Complement, Star}
 use Rattle.rule.specs.Scan.{scanned, finds, isSentence}
 use Rattle.rule.specs.declared.ScanResult.{ScanResult}
 use Rattle.rule.specs.declared.ScanResult.the-variants.{Sentence, Broken}
 use Rattle.rule.proofs.ScanDecides.{Right, scan-right}
 use Rattle.rule.proofs.Parses.{pushes, two, one, parse-whole}
 
-pair : (t r : Tree) (k : Kind) (o : ℕ) (w : Tree) (st : List Tree) → stacked (r ∷ t ∷ st) o k ≡ w ∷ st → pushes stacked st (records t) ≡ t ∷ st → pushes stacked (t ∷ st) (records r) ≡ r ∷ t ∷ st
+pair : (t r : Tree) (k : Kind) (o : ℕ) (w : Tree) (st : List Tree) → stacked (r ∷ t ∷ st) o k ≡ w ∷ st → pushes stacked st
+    (records t) ≡ t ∷ st → pushes stacked (t ∷ st) (records r) ≡ r ∷ t ∷ st
     → pushes stacked st (records t ++ records r ++ node o k) ≡ w ∷ st
 pair t r k o w st e p q =
     sym (two stacked st (records t) (records r) o k)

@@ -1,21 +1,22 @@
 -- `parse` reads each text of the grammar as its tree: it pushes the tree's records, in order, and stops at the text's end.
-use Prim.Native.Nat.{ℕ, zero, suc, _+_, _-_, _*_, _≤_, _<_}
+use Prim.Native.Nat.{ℕ, zero, suc, _+_, _-_, _≤_, _<_}
 use native.Mathlib.Omega.{arith}
-use mathlib.Core.Path.{_≡_, refl, sym, ap, ap₂, subst, subst₂, _∙_}
+use mathlib.Core.Path.{_≡_, refl, sym, ap, ap₂, subst₂, _∙_}
 use mathlib.Core.List.{List, [], _∷_, _++_, append-assoc, append-nil}
 use mathlib.Core.Bool.{Bool, true, false, cond}
 use lib.ListN.{length, getD, drop, length-append}
 use lib.Seq.{drop-append-seam}
 use lib.Dec.{eqb, ltb}
-use borrow.Author.Tests.{lt-ltb, le-ltb, eq-eqb, ne-eqb}
+use borrow.Author.Tests.{lt-ltb}
 use Rattle.event.specs.Event.{isEvent}
 use Rattle.rule.specs.Bytes.{isStart}
-use Rattle.rule.specs.Tree.{Tree, empty, epsilon, letter, union, intersection, concatenation, complement, star, records, node}
-use Rattle.rule.specs.Grammar.{Level, Alt, Conj, Seq, Pre, Post, Atom, Reads, alt-conj, alt-bar, conj-seq, conj-amp, seq-pre, seq-more, pre-post, pre-bang, post-atom, post-star, atom-letter, atom-empty, atom-epsilon, atom-group}
+use Rattle.rule.specs.Tree.{Tree, records, node}
+use Rattle.rule.specs.Grammar.{Level, Alt, Conj, Seq, Pre, Post, Atom, Reads, alt-conj, alt-bar, conj-seq, conj-amp, seq-pre, seq-more}
+use Rattle.rule.specs.Grammar.{pre-post, pre-bang, post-atom, post-star, atom-letter, atom-empty, atom-epsilon, atom-group}
 use Rattle.rule.specs.Parse as parser
 use Rattle.rule.specs.Parse.{alt, altRest, conj, conjRest, seq, seqRest, pre, post, postRest, atom, parse, measure, leafKind}
 use Rattle.rule.specs.declared.Kind.{Kind}
-use Rattle.rule.specs.declared.Kind.the-variants.{Empty, Epsilon, Letter, Union, Intersection, Concatenation, Complement, Star}
+use Rattle.rule.specs.declared.Kind.the-variants.{Union, Intersection, Concatenation, Complement, Star}
 use Rattle.rule.specs.declared.Node.{Node}
 use Rattle.rule.proofs.Texts.{letter-not, begins, start-not}
 
@@ -62,7 +63,8 @@ module _ {A : Type 0} (push : A → ℕ → Kind → A) where
   Goes Atom x q p = p ≡ q
 
   -- a rest that reads no more
-  stops : (l : parser.Call) (x : List ℕ) (q p : A × ℕ) → ((f : ℕ) → parse push (suc f) l x q ≡ q) → 0 < parser.rank l → Comes l x q p → p ≡ q
+  stops : (l : parser.Call) (x : List ℕ) (q p : A × ℕ) → ((f : ℕ) → parse push (suc f) l x q ≡ q) → 0 < parser.rank l → Comes l x q p
+      → p ≡ q
   stops l x q p s h c = go (c .fuel) (c .enough) (c .same)
     where
       go : (f : ℕ) → measure l x ≤ f → p ≡ parse push f l x q → p ≡ q
@@ -74,9 +76,11 @@ module _ {A : Type 0} (push : A → ℕ → Kind → A) where
 
   -- a level that reads with another and comes to its rest
   module _ (W F R : parser.Call)
-      (step : (f : ℕ) (s : List ℕ) (q : A × ℕ) → parse push (suc f) W s q ≡ parse push f R (drop (parse push f F s q .1 - q .1) s) (parse push f F s q))
+      (step : (f : ℕ) (s : List ℕ) (q : A × ℕ) → parse push (suc f) W s q ≡ parse push f R (drop (parse push f F s q .1 - q .1) s)
+      (parse push f F s q))
       (rf : parser.rank F < parser.rank W) (rr : parser.rank R < parser.rank W) where
-    lift : (u x : List ℕ) (a b : A) (o f : ℕ) → measure W (u ++ x) ≤ f → ((g : ℕ) → measure F (u ++ x) ≤ g → parse push g F (u ++ x) (a, o) ≡ (b, o + length u))
+    lift : (u x : List ℕ) (a b : A) (o f : ℕ) → measure W (u ++ x) ≤ f
+        → ((g : ℕ) → measure F (u ++ x) ≤ g → parse push g F (u ++ x) (a, o) ≡ (b, o + length u))
         → Comes R x (b, o + length u) (parse push f W (u ++ x) (a, o))
     lift u x a b o zero n h = absurd (omega arith)
     lift u x a b o (suc f) n h =
@@ -90,10 +94,13 @@ module _ {A : Type 0} (push : A → ℕ → Kind → A) where
 
   -- a rest that reads an operator c and its right side
   module _ (F R : parser.Call) (c : ℕ) (K : Kind)
-      (step : (f : ℕ) (s : List ℕ) (q : A × ℕ) → parse push (suc f) R (c ∷ s) q ≡ parse push f R (drop (parse push f F s (q .0, q .1 + 1) .1 - q .1) (c ∷ s)) (push (parse push f F s (q .0, q .1 + 1) .0) (q .1) K, parse push f F s (q .0, q .1 + 1) .1))
+      (step : (f : ℕ) (s : List ℕ) (q : A × ℕ) → parse push (suc f) R (c ∷ s) q ≡ parse push f R
+      (drop (parse push f F s (q .0, q .1 + 1) .1 - q .1) (c ∷ s))
+      (push (parse push f F s (q .0, q .1 + 1) .0) (q .1) K, parse push f F s (q .0, q .1 + 1) .1))
       (rf : parser.rank F ≤ 8) (rr : 0 < parser.rank R) where
     further : (v x : List ℕ) (a b : A) (o : ℕ) (p : A × ℕ) → Comes R (c ∷ v ++ x) (a, o) p
-        → ((g : ℕ) → measure F (v ++ x) ≤ g → parse push g F (v ++ x) (a, o + 1) ≡ (b, o + 1 + length v)) → Comes R x (push b o K, o + 1 + length v) p
+        → ((g : ℕ) → measure F (v ++ x) ≤ g → parse push g F (v ++ x) (a, o + 1) ≡ (b, o + 1 + length v)) → Comes R x
+        (push b o K, o + 1 + length v) p
     further v x a b o p w h = go (w .fuel) (w .enough) (w .same)
       where
         go : (f : ℕ) → measure R (c ∷ v ++ x) ≤ f → p ≡ parse push f R (c ∷ v ++ x) (a, o) → Comes R x (push b o K, o + 1 + length v) p
@@ -104,7 +111,8 @@ module _ {A : Type 0} (push : A → ℕ → Kind → A) where
               enough = omega (arith, length-append v x);
               same = e ∙ step f (v ++ x) (a, o)
                   ∙ ap (λ (r : A × ℕ). parse push f R (drop (r .1 - o) (c ∷ v ++ x)) (push (r .0) o K, r .1)) (h f (omega arith))
-                  ∙ ap (λ (s : List ℕ). parse push f R s (push b o K, o + 1 + length v)) (let z : o + 1 + length v - o ≡ suc (length v) = omega arith in rw z (drop-append-seam v x));
+                  ∙ ap (λ (s : List ℕ). parse push f R s (push b o K, o + 1 + length v))
+                  (let z : o + 1 + length v - o ≡ suc (length v) = omega arith in rw z (drop-append-seam v x));
             }
 
   -- no Post begins with a `!`
@@ -127,50 +135,59 @@ module _ {A : Type 0} (push : A → ℕ → Kind → A) where
   unfolding pushes
   one a x o k = sym (pushes-append a x (node o k))
 
-  leaf-read : (b : ℕ) (x : List ℕ) (a : A) (o f : ℕ) → eqb b 40 ≡ false → measure atom (b ∷ x) ≤ f → parse push f atom (b ∷ x) (a, o) ≡ (push a o (leafKind b), o + 1)
+  leaf-read : (b : ℕ) (x : List ℕ) (a : A) (o f : ℕ) → eqb b 40 ≡ false → measure atom (b ∷ x) ≤ f → parse push f atom (b ∷ x) (a, o) ≡
+      (push a o (leafKind b), o + 1)
   unfolding parse
   leaf-read b x a o zero h n = absurd (omega arith)
   leaf-read b x a o (suc f) h n = rw (h, lt-ltb 0 (suc (length x)) (omega arith))
 
-  bang-read : (u x : List ℕ) (a b : A) (o f : ℕ) → measure pre (33 ∷ u ++ x) ≤ f → ((g : ℕ) → measure pre (u ++ x) ≤ g → parse push g pre (u ++ x) (a, o + 1) ≡ (b, o + 1 + length u))
+  bang-read : (u x : List ℕ) (a b : A) (o f : ℕ) → measure pre (33 ∷ u ++ x) ≤ f
+      → ((g : ℕ) → measure pre (u ++ x) ≤ g → parse push g pre (u ++ x) (a, o + 1) ≡ (b, o + 1 + length u))
       → parse push f pre (33 ∷ u ++ x) (a, o) ≡ (push b o Complement, o + 1 + length u)
   unfolding parse
   bang-read u x a b o zero n h = absurd (omega arith)
   bang-read u x a b o (suc f) n h = ap (λ (p : A × ℕ). (push (p .0) o Complement, p .1)) (h f (omega arith))
 
-  post-read : (s : List ℕ) (q p : A × ℕ) (f : ℕ) → eqb (getD s 0 0) 33 ≡ false → measure pre s ≤ f → ((g : ℕ) → measure post s ≤ g → parse push g post s q ≡ p) → parse push f pre s q ≡ p
+  post-read : (s : List ℕ) (q p : A × ℕ) (f : ℕ) → eqb (getD s 0 0) 33 ≡ false → measure pre s ≤ f
+      → ((g : ℕ) → measure post s ≤ g → parse push g post s q ≡ p) → parse push f pre s q ≡ p
   unfolding parse
   post-read s q p zero e n h = absurd (omega arith)
   post-read s q p (suc f) e n h = rw e (h f (omega arith))
 
-  group-read : (s u x : List ℕ) (a b : A) (o f : ℕ) → s ≡ u ++ 41 ∷ x → measure atom (40 ∷ s) ≤ f → ((g : ℕ) → measure alt s ≤ g → parse push g alt s (a, o + 1) ≡ (b, o + 1 + length u))
+  group-read : (s u x : List ℕ) (a b : A) (o f : ℕ) → s ≡ u ++ 41 ∷ x → measure atom (40 ∷ s) ≤ f
+      → ((g : ℕ) → measure alt s ≤ g → parse push g alt s (a, o + 1) ≡ (b, o + 1 + length u))
       → parse push f atom (40 ∷ s) (a, o) ≡ (b, o + 1 + length u + 1)
   unfolding parse
   group-read s u x a b o zero e n h = absurd (omega arith)
   group-read s u x a b o (suc f) e n h =
       ap (λ (p : A × ℕ). cond (ltb (p .1 - o) (suc (length s))) (p .0, p .1 + 1) p) (h f (omega arith))
-      ∙ ap (λ (t : Bool). cond t (b, o + 1 + length u + 1) (b, o + 1 + length u)) (lt-ltb (o + 1 + length u - o) (suc (length s)) (omega (arith, ap length e, length-append u (41 ∷ x))))
+      ∙ ap (λ (t : Bool). cond t (b, o + 1 + length u + 1) (b, o + 1 + length u))
+      (lt-ltb (o + 1 + length u - o) (suc (length s)) (omega (arith, ap length e, length-append u (41 ∷ x))))
 
   star-read : (x : List ℕ) (q p : A × ℕ) → Comes postRest (42 ∷ x) q p → Comes postRest x (push (q .0) (q .1) Star, q .1 + 1) p
   unfolding parse
   star-read x q p w = go (w .fuel) (w .enough) (w .same)
     where
-      go : (f : ℕ) → measure postRest (42 ∷ x) ≤ f → p ≡ parse push f postRest (42 ∷ x) q → Comes postRest x (push (q .0) (q .1) Star, q .1 + 1) p
+      go : (f : ℕ) → measure postRest (42 ∷ x) ≤ f → p ≡ parse push f postRest (42 ∷ x) q → Comes postRest x
+          (push (q .0) (q .1) Star, q .1 + 1) p
       go zero n e = absurd (omega arith)
       go (suc f) n e = record { fuel = f; enough = omega arith; same = e }
 
   join-read : (v x : List ℕ) (a b : A) (o : ℕ) (p : A × ℕ) → isStart (getD (v ++ x) 0 0) ≡ true → Comes seqRest (v ++ x) (a, o) p
-      → ((g : ℕ) → measure pre (v ++ x) ≤ g → parse push g pre (v ++ x) (a, o) ≡ (b, o + length v)) → 0 < length v → Comes seqRest x (push b o Concatenation, o + length v) p
+      → ((g : ℕ) → measure pre (v ++ x) ≤ g → parse push g pre (v ++ x) (a, o) ≡ (b, o + length v)) → 0 < length v → Comes seqRest x
+      (push b o Concatenation, o + length v) p
   unfolding parse
   join-read v x a b o p t w h l = go (w .fuel) (w .enough) (w .same)
     where
-      go : (f : ℕ) → measure seqRest (v ++ x) ≤ f → p ≡ parse push f seqRest (v ++ x) (a, o) → Comes seqRest x (push b o Concatenation, o + length v) p
+      go : (f : ℕ) → measure seqRest (v ++ x) ≤ f → p ≡ parse push f seqRest (v ++ x) (a, o) → Comes seqRest x
+          (push b o Concatenation, o + length v) p
       go zero n e = absurd (omega arith)
       go (suc f) n e =
           record {
             fuel = f;
             enough = omega (arith, length-append v x);
-            same = e ∙ rw t (ap (λ (r : A × ℕ). parse push f seqRest (drop (r .1 - o) (v ++ x)) (push (r .0) o Concatenation, r .1)) (h f (omega arith)))
+            same = e ∙ rw t (ap (λ (r : A × ℕ). parse push f seqRest (drop (r .1 - o) (v ++ x)) (push (r .0) o Concatenation, r .1))
+                (h f (omega arith)))
                 ∙ ap (λ (s : List ℕ). parse push f seqRest s (push b o Concatenation, o + length v)) (past v x o);
           }
 
@@ -183,29 +200,36 @@ module _ {A : Type 0} (push : A → ℕ → Kind → A) where
   nonempty {u = []} r = absurd (let z : _≡_ {A = Bool} true false = sym (begins r []) in let n : _≡_ {A = ℕ} 0 1 = cc in omega arith)
   nonempty {u = b ∷ u} r = omega arith
 
-  parses : {l : Level} {o : ℕ} {u : List ℕ} {t : Tree} → Reads l o u t → (x : List ℕ) (a : A) → Free l x → (f : ℕ) → measure (level l) (u ++ x) ≤ f
+  parses : {l : Level} {o : ℕ} {u : List ℕ} {t : Tree} → Reads l o u t → (x : List ℕ) (a : A) → Free l x → (f : ℕ) → measure (level l)
+      (u ++ x) ≤ f
       → Goes l x (pushes a (records t), o + length u) (parse push f (level l) (u ++ x) (a, o))
   unfolding parse records pushes isEvent
   parses {o = o} (alt-conj {u = u} {t = t} r) x a free f n =
       lift alt conj altRest (λ f s q. refl) (omega arith) (omega arith) u x a (pushes a (records t)) o f n
-      (λ g h. stops conjRest x (pushes a (records t), o + length u) (parse push g conj (u ++ x) (a, o)) (λ f. rw (free .2)) (omega arith) (parses r x a (free .0, free .1) g h))
+      (λ g h. stops conjRest x (pushes a (records t), o + length u) (parse push g conj (u ++ x) (a, o)) (λ f. rw (free .2)) (omega arith)
+      (parses r x a (free .0, free .1) g h))
   parses {o = o} (alt-bar {u = u} {v = v} {t = t} {r = w} r q) x a free f n =
       let b = pushes a (records t) in
       let s : (u ++ 124 ∷ v) ++ x ≡ u ++ (124 ∷ v ++ x) = append-assoc u (124 ∷ v) x in
       state (two a (records t) (records w) (o + length u) Union) (omega (arith, length-append u (124 ∷ v)))
-      (further conj altRest 124 Union (λ f s q. refl) (omega arith) (omega arith) v x b (pushes b (records w)) (o + length u) (parse push f alt ((u ++ 124 ∷ v) ++ x) (a, o))
+      (further conj altRest 124 Union (λ f s q. refl) (omega arith) (omega arith) v x b (pushes b (records w)) (o + length u)
+      (parse push f alt ((u ++ 124 ∷ v) ++ x) (a, o))
       (rw s (parses r (124 ∷ v ++ x) a (refl, refl, refl) f (rw s at n)))
-      (λ g h. stops conjRest x (pushes b (records w), o + length u + 1 + length v) (parse push g conj (v ++ x) (b, o + length u + 1)) (λ f. rw (free .2)) (omega arith) (parses q x b (free .0, free .1) g h)))
+      (λ g h. stops conjRest x (pushes b (records w), o + length u + 1 + length v) (parse push g conj (v ++ x) (b, o + length u + 1))
+      (λ f. rw (free .2)) (omega arith) (parses q x b (free .0, free .1) g h)))
   parses {o = o} (conj-seq {u = u} {t = t} r) x a free f n =
       lift conj seq conjRest (λ f s q. refl) (omega arith) (omega arith) u x a (pushes a (records t)) o f n
-      (λ g h. stops seqRest x (pushes a (records t), o + length u) (parse push g seq (u ++ x) (a, o)) (λ f. rw (free .1)) (omega arith) (parses r x a (free .0) g h))
+      (λ g h. stops seqRest x (pushes a (records t), o + length u) (parse push g seq (u ++ x) (a, o)) (λ f. rw (free .1)) (omega arith)
+      (parses r x a (free .0) g h))
   parses {o = o} (conj-amp {u = u} {v = v} {t = t} {r = w} r q) x a free f n =
       let b = pushes a (records t) in
       let s : (u ++ 38 ∷ v) ++ x ≡ u ++ (38 ∷ v ++ x) = append-assoc u (38 ∷ v) x in
       state (two a (records t) (records w) (o + length u) Intersection) (omega (arith, length-append u (38 ∷ v)))
-      (further seq conjRest 38 Intersection (λ f s q. refl) (omega arith) (omega arith) v x b (pushes b (records w)) (o + length u) (parse push f conj ((u ++ 38 ∷ v) ++ x) (a, o))
+      (further seq conjRest 38 Intersection (λ f s q. refl) (omega arith) (omega arith) v x b (pushes b (records w)) (o + length u)
+      (parse push f conj ((u ++ 38 ∷ v) ++ x) (a, o))
       (rw s (parses r (38 ∷ v ++ x) a (refl, refl) f (rw s at n)))
-      (λ g h. stops seqRest x (pushes b (records w), o + length u + 1 + length v) (parse push g seq (v ++ x) (b, o + length u + 1)) (λ f. rw (free .1)) (omega arith) (parses q x b (free .0) g h)))
+      (λ g h. stops seqRest x (pushes b (records w), o + length u + 1 + length v) (parse push g seq (v ++ x) (b, o + length u + 1))
+      (λ f. rw (free .1)) (omega arith) (parses q x b (free .0) g h)))
   parses {o = o} (seq-pre {u = u} {t = t} r) x a free f n =
       lift seq pre seqRest (λ f s q. refl) (omega arith) (omega arith) u x a (pushes a (records t)) o f n (λ g h. parses r x a free g h)
   parses {o = o} (seq-more {u = u} {v = v} {t = t} {r = w} r q) x a free f n =
@@ -217,30 +241,37 @@ module _ {A : Type 0} (push : A → ℕ → Kind → A) where
       (λ g h. parses q x b free g h) (nonempty q))
   parses {o = o} (pre-post {u = u} {t = t} r) x a free f n =
       post-read (u ++ x) (a, o) (pushes a (records t), o + length u) f (unbanged r x) n
-      (λ g h. stops postRest x (pushes a (records t), o + length u) (parse push g post (u ++ x) (a, o)) (λ f. rw free) (omega arith) (parses r x a tt g h))
+      (λ g h. stops postRest x (pushes a (records t), o + length u) (parse push g post (u ++ x) (a, o)) (λ f. rw free) (omega arith)
+      (parses r x a tt g h))
   parses {o = o} (pre-bang {u = u} {t = t} r) x a free f n =
-      bang-read u x a (pushes a (records t)) o f n (λ g h. parses r x a free g h) ∙ ap₂ (λ (b : A) (m : ℕ). (b, m)) (one a (records t) o Complement) (omega arith)
+      bang-read u x a (pushes a (records t)) o f n (λ g h. parses r x a free g h) ∙ ap₂ (λ (b : A) (m : ℕ). (b, m))
+      (one a (records t) o Complement) (omega arith)
   parses {o = o} (post-atom {u = u} {t = t} r) x a free f n =
       lift post atom postRest (λ f s q. refl) (omega arith) (omega arith) u x a (pushes a (records t)) o f n (λ g h. parses r x a tt g h)
   parses {o = o} (post-star {u = u} {t = t} r) x a free f n =
       let s : (u ++ 42 ∷ []) ++ x ≡ u ++ 42 ∷ x = append-assoc u (42 ∷ []) x in
       state (one a (records t) (o + length u) Star) (omega (arith, length-append u (42 ∷ [])))
-      (star-read x (pushes a (records t), o + length u) (parse push f post ((u ++ 42 ∷ []) ++ x) (a, o)) (rw s (parses r (42 ∷ x) a tt f (rw s at n))))
+      (star-read x (pushes a (records t), o + length u) (parse push f post ((u ++ 42 ∷ []) ++ x) (a, o))
+      (rw s (parses r (42 ∷ x) a tt f (rw s at n))))
   parses {o = o} (atom-letter {b = b} h) x a free f n =
-      leaf-read b x a o f (letter-not b 40 h (omega arith)) n ∙ ap₂ (λ (c : A) (m : ℕ). (c, m)) (simp (letter-not b 48 h (omega arith), letter-not b 49 h (omega arith))) (omega arith)
+      leaf-read b x a o f (letter-not b 40 h (omega arith)) n ∙ ap₂ (λ (c : A) (m : ℕ). (c, m))
+      (simp (letter-not b 48 h (omega arith), letter-not b 49 h (omega arith))) (omega arith)
   parses {o = o} atom-empty x a free f n = leaf-read 48 x a o f refl n ∙ ap₂ (λ (c : A) (m : ℕ). (c, m)) refl (omega arith)
   parses {o = o} atom-epsilon x a free f n = leaf-read 49 x a o f refl n ∙ ap₂ (λ (c : A) (m : ℕ). (c, m)) refl (omega arith)
   parses {o = o} (atom-group {u = u} {t = t} r) x a free f n =
       let s : (u ++ 41 ∷ []) ++ x ≡ u ++ 41 ∷ x = append-assoc u (41 ∷ []) x in
       group-read ((u ++ 41 ∷ []) ++ x) u x a (pushes a (records t)) o f s n
-      (λ g h. rw s (stops altRest (41 ∷ x) (pushes a (records t), o + 1 + length u) (parse push g alt (u ++ 41 ∷ x) (a, o + 1)) (λ f. refl) (omega arith) (parses r (41 ∷ x) a (refl, refl, refl) g (rw s at h))))
+      (λ g h. rw s (stops altRest (41 ∷ x) (pushes a (records t), o + 1 + length u) (parse push g alt (u ++ 41 ∷ x) (a, o + 1)) (λ f. refl)
+      (omega arith) (parses r (41 ∷ x) a (refl, refl, refl) g (rw s at h))))
       ∙ ap₂ (λ (c : A) (m : ℕ). (c, m)) refl (omega (arith, length-append u (41 ∷ [])))
 
   -- a sentence: the records of its tree are pushed, and all of it is read
-  pub parse-whole : {s : List ℕ} {t : Tree} → Reads Alt 0 s t → (a : A) (f : ℕ) → measure alt s ≤ f → parse push f alt s (a, 0) ≡ (pushes a (records t), length s)
+  pub parse-whole : {s : List ℕ} {t : Tree} → Reads Alt 0 s t → (a : A) (f : ℕ) → measure alt s ≤ f → parse push f alt s (a, 0) ≡
+      (pushes a (records t), length s)
   unfolding parse isEvent
   parse-whole {s} {t} r a f n =
       let z = append-nil s in
       ap (λ (u : List ℕ). parse push f alt u (a, 0)) (sym z)
-      ∙ stops altRest [] (pushes a (records t), 0 + length s) (parse push f alt (s ++ []) (a, 0)) (λ f. refl) (omega arith) (parses r [] a (refl, refl, refl) f (rw z n))
+      ∙ stops altRest [] (pushes a (records t), 0 + length s) (parse push f alt (s ++ []) (a, 0)) (λ f. refl) (omega arith)
+      (parses r [] a (refl, refl, refl) f (rw z n))
       ∙ ap₂ (λ (c : A) (m : ℕ). (c, m)) refl (omega arith)

@@ -4,7 +4,7 @@ use native.Mathlib.Omega.{arith}
 use mathlib.Core.Path.{_≡_, refl}
 use mathlib.Core.List.{List, [], _∷_, _++_}
 use lib.ListN.{length, length-append}
-use Rattle.rule.specs.Tree.{Tree, empty, epsilon, letter, union, intersection, concatenation, complement, star, below, size, records}
+use Rattle.rule.specs.Tree.{Tree, empty, epsilon, letter, union, intersection, concatenation, complement, star, size, records}
 use Rattle.rule.specs.declared.Node.{Node}
 
 two-sides : (x y : List Node) (n : Node) {a b : ℕ} → length x ≡ suc a → length y ≡ suc b → length (x ++ y ++ n ∷ []) ≡ suc (suc a + suc b)

@@ -1,22 +1,20 @@
 -- The scan accepts each sentence, and counts its nodes.
-use Prim.Native.Nat.{ℕ, suc, _+_, _-_, _≤_, _<_}
+use Prim.Native.Nat.{ℕ, _+_, _-_}
 use native.Mathlib.Omega.{arith}
-use mathlib.Core.Path.{_≡_, refl, sym, ap, ap₂, subst, _∙_}
+use mathlib.Core.Path.{_≡_, refl, sym, ap, ap₂, _∙_}
 use mathlib.Core.List.{List, [], _∷_, _++_, append-assoc, append-nil}
-use mathlib.Core.Bool.{Bool, true, false, cond}
+use mathlib.Core.Bool.{Bool, true, false}
 use lib.ListN.{length, getD, length-append}
-use lib.Dec.{T, eqb}
-use borrow.Author.Tests.{eq-eqb, ne-eqb, eqb-true, le-leb}
+use lib.Dec.{T}
+use borrow.Author.Tests.{ne-eqb}
 use Rattle.event.specs.Event.{isEvent}
-use Rattle.rule.specs.Bytes.{isLeaf, isStart}
-use Rattle.rule.specs.Scan.{to, stepOf, stepAfter, stepBefore, scanFrom, scanned, onward}
-use Rattle.rule.specs.declared.ScanState.{ScanState}
-use Rattle.rule.specs.declared.ScanStep.{ScanStep}
-use Rattle.rule.specs.declared.ScanStep.the-variants.{Stuck, Next}
+use Rattle.rule.specs.Bytes.{isStart}
+use Rattle.rule.specs.Scan.{to, stepAfter, stepBefore, scanFrom, scanned, onward}
 use Rattle.rule.specs.declared.ScanResult.{ScanResult}
 use Rattle.rule.specs.declared.ScanResult.the-variants as result
 use Rattle.rule.specs.Tree.{Tree, size, specials}
-use Rattle.rule.specs.Grammar.{Level, Alt, Conj, Seq, Pre, Post, Atom, Reads, alt-conj, alt-bar, conj-seq, conj-amp, seq-pre, seq-more, pre-post, pre-bang, post-atom, post-star, atom-letter, atom-empty, atom-epsilon, atom-group, Sentence}
+use Rattle.rule.specs.Grammar.{Level, Alt, Reads, alt-conj, alt-bar, conj-seq, conj-amp, seq-pre, seq-more, pre-post, pre-bang, post-atom}
+use Rattle.rule.specs.Grammar.{post-star, atom-letter, atom-empty, atom-epsilon, atom-group, Sentence}
 use Rattle.rule.proofs.Texts.{letter-not, letter-leaf, begins, start-not}
 
 -- a scan from a state that is written out
@@ -55,7 +53,8 @@ letter-step s b i d m k h = ap (onward (scanFrom s) i) (letter-move b d m k h)
 between : (c : ℕ) (u v x : List ℕ) (i : ℕ) → i + length u + 1 + length v ≡ i + length (u ++ c ∷ v)
 between c u v x i = omega (arith, length-append u (c ∷ v))
 
-pub accepts : {l : Level} {o : ℕ} {u : List ℕ} {t : Tree} → Reads l o u t → (x : List ℕ) (i d m k : ℕ) → from (u ++ x) i d false m k ≡ from x (i + length u) d true (m + size t) (k + specials t)
+pub accepts : {l : Level} {o : ℕ} {u : List ℕ} {t : Tree} → Reads l o u t → (x : List ℕ) (i d m k : ℕ) → from
+    (u ++ x) i d false m k ≡ from x (i + length u) d true (m + size t) (k + specials t)
 unfolding scanFrom
 accepts (alt-conj r) x i d m k = accepts r x i d m k
 accepts (alt-bar {u = u} {v = v} {t = t} r q) x i d m k =

@@ -2,26 +2,26 @@
 use Prim.Native.Nat.{ℕ, zero, suc, _+_, _-_, _≤_, _<_}
 use native.Mathlib.Omega.{arith}
 use native.Mathlib.Numerals.{add-one}
-use mathlib.Core.Path.{_≡_, refl, sym, ap, ap₂, subst, subst₂, _∙_}
+use mathlib.Core.Path.{_≡_, refl, sym, ap, subst, subst₂, _∙_}
 use mathlib.Core.List.{List, [], _∷_, _++_, append-assoc, append-nil}
 use mathlib.Core.Bool.{Bool, true, false, cond, _||_}
-use lib.ListN.{length, getD, take, length-append}
-use lib.Seq.{take-all}
+use lib.ListN.{length, take}
 use lib.Dec.{eqb}
 use borrow.Author.Tests.{eqb-true, eqb-false}
 use Rattle.event.specs.Event.{isEvent}
 use Rattle.event.proofs.Tests.{T-of}
-use Rattle.rule.specs.Bytes.{isLeaf, isStart}
-use Rattle.rule.specs.Scan.{to, stepOf, stepAfter, stepBefore, scanFrom, scanned, onward, finish}
+use Rattle.rule.specs.Bytes.{isLeaf}
+use Rattle.rule.specs.Scan.{stepOf, stepAfter, stepBefore, scanFrom, scanned, onward}
 use Rattle.rule.specs.declared.ScanState.{ScanState}
 use Rattle.rule.specs.declared.ScanStep.{ScanStep}
 use Rattle.rule.specs.declared.ScanStep.the-variants.{Stuck, Next}
 use Rattle.rule.specs.declared.ScanResult.{ScanResult}
 use Rattle.rule.specs.declared.ScanResult.the-variants as result
 use Rattle.rule.specs.Tree.{Tree, empty, epsilon, letter, size, specials}
-use Rattle.rule.specs.Grammar.{Level, Alt, Atom, Reads, atom-letter, atom-empty, atom-epsilon, Sentence, Viable, Longest}
+use Rattle.rule.specs.Grammar.{Alt, Atom, Reads, atom-letter, atom-empty, atom-epsilon, Sentence, Viable, Longest}
 use Rattle.rule.proofs.ScanAccepts.{sentence-found}
-use Rattle.rule.proofs.ScanSound.{Expects, Ended, none, no-more, no-amp, start, atom-next, bang-next, open-next, star-next, again, amp-next, bar-next, close-next, ended-sentence, ended-viable, expects-viable}
+use Rattle.rule.proofs.ScanSound.{Expects, Ended, none, no-more, no-amp, start, atom-next, bang-next, open-next, star-next, again, amp-next}
+use Rattle.rule.proofs.ScanSound.{bar-next, close-next, ended-sentence, ended-viable, expects-viable}
 
 -- by a test, with what it says
 choose : {A : Type 0} (P : A → Type 0) (t : Bool) {a b : A} → (t ≡ true → P a) → (t ≡ false → P b) → P (cond t a b)
@@ -85,7 +85,8 @@ module _ (b d m k : ℕ) (p : List ℕ) where
       (λ n. choose Q (eqb b 40) (λ h. at-byte 40 false (d + 1) h (opened (again d p x)))
       (λ n. choose Q (isLeaf b) (λ h. leaf-next h (again d p x)) (λ n. tt)))))))
 
-stands : (b : ℕ) (p : List ℕ) (d : ℕ) (a : Bool) (m k : ℕ) → Stands a d p → Holds (p ++ b ∷ []) (stepOf (record { depth = d; ended = a; nodes = m; specials = k }) b)
+stands : (b : ℕ) (p : List ℕ) (d : ℕ) (a : Bool) (m k : ℕ) → Stands a d p → Holds (p ++ b ∷ [])
+    (stepOf (record { depth = d; ended = a; nodes = m; specials = k }) b)
 stands b p d true m k x = ended b d m k p x
 stands b p d false m k x = expected b d m k p x
 
@@ -136,7 +137,8 @@ here b s p i q x e =
     go zero h g x = absurd (omega arith)
     go (suc n) h g x = ap (onward (scanFrom (take n s ++ x)) i) e
 
-later : (b : ℕ) (s p : List ℕ) (i : ℕ) (q r : ScanState) (j : ℕ) → stepOf q b ≡ Next r → Stop s (p ++ b ∷ []) (i + 1) r j → Stop (b ∷ s) p i q j
+later : (b : ℕ) (s p : List ℕ) (i : ℕ) (q r : ScanState) (j : ℕ) → stepOf q b ≡ Next r → Stop s (p ++ b ∷ []) (i + 1) r j → Stop
+    (b ∷ s) p i q j
 unfolding scanFrom
 later b s p i q r j e t =
     record {
@@ -151,12 +153,15 @@ later b s p i q r j e t =
     go zero h g x = absurd (omega arith)
     go (suc n) h g x = ap (onward (scanFrom (take n s ++ x)) i) e ∙ t .stuck n (omega arith) (omega arith) x
 
-passed-on : (b : ℕ) (s p : List ℕ) (i : ℕ) (q r : ScanState) → stepOf q b ≡ Next r → (f : ScanResult) → Ends s (p ++ b ∷ []) (i + 1) r f → Ends (b ∷ s) p i q f
+passed-on : (b : ℕ) (s p : List ℕ) (i : ℕ) (q r : ScanState) → stepOf q b ≡ Next r → (f : ScanResult) → Ends s (p ++ b ∷ []) (i + 1) r f
+    → Ends (b ∷ s) p i q f
 passed-on b s p i q r e (result.Sentence m k) x = subst Sentence (append-assoc p (b ∷ []) s) x
 passed-on b s p i q r e (result.Broken j) x = later b s p i q r j e x
 
-turned : (b : ℕ) (s p : List ℕ) (i : ℕ) (q : ScanState) → Stands (q .ended) (q .depth) p → (o : ScanStep) → stepOf q b ≡ o → Holds (p ++ b ∷ []) o
-    → ((r : ScanState) → Stands (r .ended) (r .depth) (p ++ b ∷ []) → Ends s (p ++ b ∷ []) (i + 1) r (scanFrom s (i + 1) r)) → Ends (b ∷ s) p i q (onward (scanFrom s) i o)
+turned : (b : ℕ) (s p : List ℕ) (i : ℕ) (q : ScanState) → Stands (q .ended) (q .depth) p → (o : ScanStep) → stepOf q b ≡ o → Holds
+    (p ++ b ∷ []) o
+    → ((r : ScanState) → Stands (r .ended) (r .depth) (p ++ b ∷ []) → Ends s (p ++ b ∷ []) (i + 1) r (scanFrom s (i + 1) r)) → Ends
+    (b ∷ s) p i q (onward (scanFrom s) i o)
 turned b s p i q x Stuck e h ih = here b s p i q x e
 turned b s p i q x (Next r) e h ih = passed-on b s p i q r e (scanFrom s (i + 1) r) (ih r h)
 
@@ -167,7 +172,8 @@ ends [] p i q x =
     choose Q (q .ended)
     (λ a. choose Q (eqb (q .depth) 0) (λ z. ends-sentence p (q .ended) (q .depth) a (eqb-true (q .depth) 0 z) x) (λ z. at-end p i q x))
     (λ a. at-end p i q x)
-ends (b ∷ s) p i q x = turned b s p i q x (stepOf q b) refl (stands b p (q .depth) (q .ended) (q .nodes) (q .specials) x) (λ r h. ends s (p ++ b ∷ []) (i + 1) r h)
+ends (b ∷ s) p i q x = turned b s p i q x (stepOf q b) refl (stands b p (q .depth) (q .ended) (q .nodes) (q .specials) x)
+    (λ r h. ends s (p ++ b ∷ []) (i + 1) r h)
 
 -- ---- the verdict
 pub record Whole (s : List ℕ) (m k : ℕ) : Type 0 where
@@ -206,4 +212,5 @@ judged s (result.Broken j) e x =
     apart c = let n : _≡_ {A = ℕ} 0 1 = cc in omega arith
 
 pub scan-right : (s : List ℕ) → Right s (scanned s)
-scan-right s = judged s (scanned s) refl (ends s [] 0 initial (record { outer = []; left = []; whole = refl; open' = none; before = no-more (no-amp start) }))
+scan-right s = judged s (scanned s) refl
+    (ends s [] 0 initial (record { outer = []; left = []; whole = refl; open' = none; before = no-more (no-amp start) }))

@@ -1,12 +1,12 @@
 -- What the scan has passed is the beginning of a sentence. A state of the scan is kept with the parts of the grammar that stand open there.
-use Prim.Native.Nat.{ℕ, zero, suc, _+_, _-_, _≤_, _<_}
+use Prim.Native.Nat.{ℕ, zero, suc, _+_}
 use native.Mathlib.Omega.{arith}
-use mathlib.Core.Path.{_≡_, refl, sym, ap, ap₂, subst, subst₂, _∙_}
+use mathlib.Core.Path.{_≡_, refl, sym, ap, subst, subst₂, _∙_}
 use mathlib.Core.List.{List, [], _∷_, _++_, append-assoc, append-nil}
-use mathlib.Core.Bool.{Bool, true, false, cond}
-use lib.ListN.{length, getD, length-append}
+use lib.ListN.{length, length-append}
 use Rattle.rule.specs.Tree.{Tree, empty}
-use Rattle.rule.specs.Grammar.{Level, Alt, Conj, Seq, Pre, Post, Atom, Reads, alt-conj, alt-bar, conj-seq, conj-amp, seq-pre, seq-more, pre-post, pre-bang, post-atom, post-star, atom-letter, atom-empty, atom-epsilon, atom-group, Sentence, Viable}
+use Rattle.rule.specs.Grammar.{Level, Alt, Conj, Seq, Pre, Post, Atom, Reads, alt-conj, alt-bar, conj-seq, conj-amp, seq-pre, seq-more}
+use Rattle.rule.specs.Grammar.{pre-post, pre-bang, post-atom, post-star, atom-empty, atom-group, Sentence, Viable}
 
 -- the same text, at an offset and as a list that are written another way
 moved : {l : Level} {o p : ℕ} {u v : List ℕ} {t : Tree} → o ≡ p → u ≡ v → Reads l o u t → Reads l p v t
@@ -46,7 +46,15 @@ record AtConj (o : ℕ) (s : List ℕ) : Type 0 where
 to-seq : {o : ℕ} {x u : List ℕ} {t : Tree} → BeforePre o x → Reads Pre (o + length x) u t → AtSeq o (x ++ u)
 to-seq {x = x} {u = u} (no-more b) r = record { left = x; text = u; tree = _; whole = refl; before = b; reads = seq-pre r }
 to-seq {o} {u = u} (more {x = x} {u = v} b q) r =
-    record { left = x; text = v ++ u; tree = _; whole = append-assoc x v u; before = b; reads = seq-more q (moved (omega (arith, length-append x v)) refl r) }
+    record {
+      left = x;
+      text = v ++ u;
+      tree = _;
+      whole = append-assoc x v u;
+      before = b;
+      reads = seq-more q
+          (moved (omega (arith, length-append x v)) refl r);
+    }
 to-seq {o} {u = u} (bang {x = x} b) r =
     subst (AtSeq o) (sym (append-assoc x (33 ∷ []) u)) (to-seq b (pre-bang (moved (omega (arith, length-append x (33 ∷ []))) refl r)))
 
@@ -64,7 +72,11 @@ to-conj {o} {u = u} (amp {x = x} {u = v} b q) r =
 
 to-alt : {o : ℕ} {x u : List ℕ} {t : Tree} → BeforeConj o x → Reads Conj (o + length x) u t → (r : Tree) × Reads Alt o (x ++ u) r
 to-alt {o} start r = (_, alt-conj {o = o} (moved (omega arith) refl r))
-to-alt {o} {u = u} (bar {u = v} q) r = (_, moved refl (simp append-assoc) (alt-bar q (moved (omega (arith, length-append v (124 ∷ []))) refl r)))
+to-alt {o} {u = u} (bar {u = v} q) r = (
+  _,
+  moved refl (simp append-assoc)
+      (alt-bar q (moved (omega (arith, length-append v (124 ∷ []))) refl r)),
+)
 
 -- d open parentheses: the text up to the last of them
 pub data Open : ℕ → List ℕ → Type 0 where
@@ -190,7 +202,8 @@ closed d y u t (one {y = z} {x = x} o b) r =
       whole = simp append-assoc;
       open' = o;
       before = b;
-      reads = post-atom (atom-group {o = length z + length x} (moved (omega (arith, length-append z (x ++ 40 ∷ []), length-append x (40 ∷ []))) refl r));
+      reads = post-atom (atom-group {o = length z + length x}
+          (moved (omega (arith, length-append z (x ++ 40 ∷ []), length-append x (40 ∷ []))) refl r));
     }
 
 pub close-next : (d : ℕ) (p : List ℕ) → Ended (suc d) p → Ended d (p ++ 41 ∷ [])

@@ -1,10 +1,10 @@
 -- Facts of the texts that the grammar reads.
-use Prim.Native.Nat.{ℕ, suc, _+_, _≤_, _<_}
+use Prim.Native.Nat.{ℕ, _<_}
 use native.Mathlib.Omega.{arith}
-use mathlib.Core.Path.{_≡_, refl, sym, ap, subst, _∙_}
-use mathlib.Core.List.{List, [], _∷_, _++_, append-assoc, append-nil}
-use mathlib.Core.Bool.{Bool, true, false, _||_}
-use lib.ListN.{length, getD, length-append}
+use mathlib.Core.Path.{_≡_, refl, sym, ap, _∙_}
+use mathlib.Core.List.{List, [], _∷_, _++_, append-assoc}
+use mathlib.Core.Bool.{Bool, true, false}
+use lib.ListN.{getD}
 use lib.Dec.{T, eqb}
 use borrow.Author.Tests.{ne-eqb}
 use Rattle.event.specs.Event.{isEvent}
@@ -12,7 +12,8 @@ use Rattle.event.proofs.Tests.{of-T}
 use Rattle.event.proofs.EventLaws.{event-between}
 use Rattle.rule.specs.Bytes.{isLeaf, isStart}
 use Rattle.rule.specs.Tree.{Tree}
-use Rattle.rule.specs.Grammar.{Level, Alt, Conj, Seq, Pre, Post, Atom, Reads, alt-conj, alt-bar, conj-seq, conj-amp, seq-pre, seq-more, pre-post, pre-bang, post-atom, post-star, atom-letter, atom-empty, atom-epsilon, atom-group}
+use Rattle.rule.specs.Grammar.{Level, Reads, alt-conj, alt-bar, conj-seq, conj-amp, seq-pre, seq-more, pre-post, pre-bang, post-atom, post-star}
+use Rattle.rule.specs.Grammar.{atom-letter, atom-empty, atom-epsilon, atom-group}
 
 -- a letter is a leaf, and none of the signs below the letters
 pub letter-not : (b c : ℕ) → T (isEvent b) → c < 50 → eqb b c ≡ false
@@ -43,4 +44,5 @@ begins (atom-group r) x = refl
 
 -- a byte with which an operand can begin is no other sign
 pub start-not : (b c : ℕ) → isStart b ≡ true → isStart c ≡ false → eqb b c ≡ false
-start-not b c h g = ne-eqb b c (λ e. let z : _≡_ {A = Bool} true false = sym h ∙ ap isStart e ∙ g in let n : _≡_ {A = ℕ} 0 1 = cc in omega arith)
+start-not b c h g = ne-eqb b c (λ e. let z : _≡_ {A = Bool} true false = sym h ∙ ap isStart e
+    ∙ g in let n : _≡_ {A = ℕ} 0 1 = cc in omega arith)

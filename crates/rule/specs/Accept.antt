@@ -1,5 +1,5 @@
 -- The language of a rule, decided by computation: `accepts`. That it decides `Lang` is `decides` in proofs/Decides. Assumes nothing.
-use mathlib.Core.List.{List, [], _∷_}
+use mathlib.Core.List.{[], _∷_}
 use mathlib.Core.Bool.{Bool, true, false, not, _&&_, _||_}
 use Prim.Native.Nat.{ℕ, zero, suc}
 use lib.Dec.{eqb}

@@ -1,7 +1,7 @@
 -- The recursive reader as a function on lists, over whatever `push` makes of a node. That it reads as the grammar does is proved in proofs/Parses. Assumes nothing.
 use Prim.Native.Nat.{ℕ, zero, suc, _+_, _-_, _*_}
-use mathlib.Core.List.{List, [], _∷_}
-use mathlib.Core.Bool.{Bool, true, false, cond}
+use mathlib.Core.List.{List}
+use mathlib.Core.Bool.{cond}
 use lib.ListN.{length, getD, drop}
 use lib.Dec.{ltb, eqb}
 use Rattle.rule.specs.Bytes.{isStart}

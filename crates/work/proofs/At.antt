@@ -1,7 +1,7 @@
 -- Where the walk stands, said by recursion on the tree: E are the numbers at which the entry of t is reached. Assumes nothing.
 use mathlib.Core.Path.{_≡_}
 use mathlib.Core.Logic.{_⊎_}
-use Prim.Native.Nat.{ℕ, zero, suc, _+_, _≤_, _<_}
+use Prim.Native.Nat.{ℕ, _+_}
 use Rattle.rule.specs.Tree.{Tree, empty, epsilon, letter, union, intersection, concatenation, complement, star, size}
 use Rattle.work.specs.Walk.{entry, exit}
 use Rattle.event.specs.Event.{Word}
@@ -22,7 +22,8 @@ Under w (epsilon o) x E s j = ⊥
 Under w (letter o c) x E s j = ⊥
 Under w (union o a b) x E s j = (Own w a x E s j ⊎ Under w a x E s j) ⊎ (Own w b (x + size a) E s j ⊎ Under w b (x + size a) E s j)
 Under w (intersection o a b) x E s j = ⊥
-Under w (concatenation o a b) x E s j = (Own w a x E s j ⊎ Under w a x E s j) ⊎ (Own w b (x + size a) (Exit w a E) s j ⊎ Under w b (x + size a) (Exit w a E) s j)
+Under w (concatenation o a b) x E s j = (Own w a x E s j ⊎ Under w a x E s j)
+    ⊎ (Own w b (x + size a) (Exit w a E) s j ⊎ Under w b (x + size a) (Exit w a E) s j)
 Under w (star o a) x E s j = Own w a x (Exit w (star o a) E) s j ⊎ Under w a x (Exit w (star o a) E) s j
 Under w (complement o a) x E s j = ⊥
 

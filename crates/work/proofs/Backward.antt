@@ -1,15 +1,17 @@
 -- What is closed under the moves and holds the entries holds all of At's places. Assumes nothing.
-use mathlib.Core.Path.{_≡_, refl}
 use mathlib.Core.Logic.{_⊎_, inl, inr}
-use Prim.Native.Nat.{ℕ, zero, suc, _+_, _*_, _≤_, _<_}
+use Prim.Native.Nat.{ℕ, zero, suc, _+_, _≤_}
 use native.Mathlib.Omega.{arith}
 use lib.ListN.{length}
 use lib.Seq.{slice}
 use Rattle.event.specs.Event.{Word}
-use Rattle.rule.specs.Tree.{Tree, empty, epsilon, letter, union, intersection, concatenation, complement, star, below, size}
+use Rattle.rule.specs.Tree.{Tree, empty, epsilon, letter, union, intersection, concatenation, complement, star, size}
 use Rattle.rule.specs.Lang.{Power, Lang}
 use Rattle.work.specs.Span.{Obeys}
-use Rattle.work.specs.Walk.{entry, exit, Part, itself, union-left, union-right, intersection-left, intersection-right, concatenation-left, concatenation-right, complement-inner, star-inner, NodeMove, epsilon-through, letter-use, union-to-left, union-to-right, union-left-out, union-right-out, concatenation-in, concatenation-over, concatenation-out, star-in, star-skip, star-again, star-out, intersection-span, complement-span, RuleMove}
+use Rattle.work.specs.Walk.{entry, exit, Part, itself, union-left, union-right, concatenation-left, concatenation-right, star-inner, NodeMove}
+use Rattle.work.specs.Walk.{epsilon-through, letter-use, union-to-left, union-to-right, union-left-out, union-right-out, concatenation-in}
+use Rattle.work.specs.Walk.{concatenation-over, concatenation-out, star-in, star-skip, star-again, star-out, intersection-span, complement-span}
+use Rattle.work.specs.Walk.{RuleMove}
 use Rattle.work.proofs.At.{Exit, Own, Under, At}
 use Rattle.work.proofs.Moves.{by-root, by-part}
 use Rattle.work.proofs.Slices.{part, slice-nil, one-slice, obeys-concatenation}
@@ -52,9 +54,12 @@ module _ (w : Word) (R : ℕ → ℕ → Type 0) where
       go c star-out (th (d .mid) k (record { order = d .high; fits = q; word = rw (d .right) hv }) m)
 
   through-union : (o : ℕ) (a b : Tree) (x : ℕ) → Closed (union o a b) x → Through a x → Through b (x + size a)
-      → (j k : ℕ) → j ≤ k → k ≤ length w → Lang a (slice j k w) ⊎ Lang b (slice j k w) → R (entry (union o a b) x) j → R (exit (union o a b) x) k
-  through-union o a b x c p q j k l m (inl h) r = go c union-left-out (p j k (record { order = l; fits = m; word = h }) (go c union-to-left r))
-  through-union o a b x c p q j k l m (inr h) r = go c union-right-out (q j k (record { order = l; fits = m; word = h }) (go c union-to-right r))
+      → (j k : ℕ) → j ≤ k → k ≤ length w → Lang a (slice j k w) ⊎ Lang b (slice j k w) → R (entry (union o a b) x) j → R
+      (exit (union o a b) x) k
+  through-union o a b x c p q j k l m (inl h) r = go c union-left-out
+      (p j k (record { order = l; fits = m; word = h }) (go c union-to-left r))
+  through-union o a b x c p q j k l m (inr h) r = go c union-right-out
+      (q j k (record { order = l; fits = m; word = h }) (go c union-to-right r))
 
   pub through : (t : Tree) (x : ℕ) → Closed t x → Through t x
   through (empty o) x c j k h r = absurd (h .word)
@@ -63,7 +68,8 @@ module _ (w : Word) (R : ℕ → ℕ → Type 0) where
       let p = one-slice w j k l (h .order) (h .fits) (h .word) in
       rw (p .0) (go c (letter-use (omega (arith, h .fits, p .0)) (p .1)) r)
   through (union o a b) x c j k h r =
-      through-union o a b x c (through a x (part-closed (union-left itself) c)) (through b (x + size a) (part-closed (union-right itself) c))
+      through-union o a b x c (through a x (part-closed (union-left itself) c))
+      (through b (x + size a) (part-closed (union-right itself) c))
       j k (h .order) (h .fits) (h .word) r
   through (intersection o a b) x c j k h r = go c (intersection-span h) r
   through (concatenation o a b) x c j k h r =
@@ -88,25 +94,34 @@ module _ (w : Word) (R : ℕ → ℕ → Type 0) where
   -- the inner entries of a star
   inner : (o : ℕ) (a : Tree) (x : ℕ) → Closed (star o a) x → (E : ℕ → Type 0) → Holds (star o a) x E → Holds a x (Exit w (star o a) E)
   inner o a x c E p j h =
-      around o a x c (through a x (part-closed (star-inner itself) c)) (h .2 .word .0) (h .0) j (h .2 .order) (h .2 .fits) (h .2 .word .1) (p (h .0) (h .1))
+      around o a x c (through a x (part-closed (star-inner itself) c)) (h .2 .word .0) (h .0) j (h .2 .order) (h .2 .fits) (h .2 .word .1)
+      (p (h .0) (h .1))
 
   under-in : (t : Tree) (x : ℕ) → Closed t x → (E : ℕ → Type 0) → Holds t x E → (s j : ℕ) → Under w t x E s j → R s j
   under-in (empty o) x c E p s j h = absurd h
   under-in (epsilon o) x c E p s j h = absurd h
   under-in (letter o l) x c E p s j h = absurd h
-  under-in (union o a b) x c E p s j (inl (inl h)) = own-in a x (part-closed (union-left itself) c) E (λ j e. go c union-to-left (p j e)) s j h
-  under-in (union o a b) x c E p s j (inl (inr h)) = under-in a x (part-closed (union-left itself) c) E (λ j e. go c union-to-left (p j e)) s j h
-  under-in (union o a b) x c E p s j (inr (inl h)) = own-in b (x + size a) (part-closed (union-right itself) c) E (λ j e. go c union-to-right (p j e)) s j h
-  under-in (union o a b) x c E p s j (inr (inr h)) = under-in b (x + size a) (part-closed (union-right itself) c) E (λ j e. go c union-to-right (p j e)) s j h
+  under-in (union o a b) x c E p s j (inl (inl h)) = own-in a x (part-closed (union-left itself) c) E
+      (λ j e. go c union-to-left (p j e)) s j h
+  under-in (union o a b) x c E p s j (inl (inr h)) = under-in a x (part-closed (union-left itself) c) E
+      (λ j e. go c union-to-left (p j e)) s j h
+  under-in (union o a b) x c E p s j (inr (inl h)) = own-in b (x + size a) (part-closed (union-right itself) c) E
+      (λ j e. go c union-to-right (p j e)) s j h
+  under-in (union o a b) x c E p s j (inr (inr h)) = under-in b (x + size a) (part-closed (union-right itself) c) E
+      (λ j e. go c union-to-right (p j e)) s j h
   under-in (intersection o a b) x c E p s j h = absurd h
-  under-in (concatenation o a b) x c E p s j (inl (inl h)) = own-in a x (part-closed (concatenation-left itself) c) E (λ j e. go c concatenation-in (p j e)) s j h
-  under-in (concatenation o a b) x c E p s j (inl (inr h)) = under-in a x (part-closed (concatenation-left itself) c) E (λ j e. go c concatenation-in (p j e)) s j h
+  under-in (concatenation o a b) x c E p s j (inl (inl h)) = own-in a x (part-closed (concatenation-left itself) c) E
+      (λ j e. go c concatenation-in (p j e)) s j h
+  under-in (concatenation o a b) x c E p s j (inl (inr h)) = under-in a x (part-closed (concatenation-left itself) c) E
+      (λ j e. go c concatenation-in (p j e)) s j h
   under-in (concatenation o a b) x c E p s j (inr (inl h)) =
       own-in b (x + size a) (part-closed (concatenation-right itself) c) (Exit w a E)
-      (λ j e. go c concatenation-over (exits-in a x (part-closed (concatenation-left itself) c) E (λ j e. go c concatenation-in (p j e)) j e)) s j h
+      (λ j e. go c concatenation-over
+      (exits-in a x (part-closed (concatenation-left itself) c) E (λ j e. go c concatenation-in (p j e)) j e)) s j h
   under-in (concatenation o a b) x c E p s j (inr (inr h)) =
       under-in b (x + size a) (part-closed (concatenation-right itself) c) (Exit w a E)
-      (λ j e. go c concatenation-over (exits-in a x (part-closed (concatenation-left itself) c) E (λ j e. go c concatenation-in (p j e)) j e)) s j h
+      (λ j e. go c concatenation-over
+      (exits-in a x (part-closed (concatenation-left itself) c) E (λ j e. go c concatenation-in (p j e)) j e)) s j h
   under-in (star o a) x c E p s j (inl h) = own-in a x (part-closed (star-inner itself) c) (Exit w (star o a) E) (inner o a x c E p) s j h
   under-in (star o a) x c E p s j (inr h) = under-in a x (part-closed (star-inner itself) c) (Exit w (star o a) E) (inner o a x c E p) s j h
   under-in (complement o a) x c E p s j h = absurd h

@@ -1,7 +1,7 @@
 -- The full work count is at most m (n + 1) (n + 2). Assumes nothing.
-use mathlib.Core.Path.{_≡_, refl, sym, ap, subst}
+use mathlib.Core.Path.{_≡_, refl, ap}
 use mathlib.Core.Bool.{Bool, true, false, _&&_}
-use Prim.Native.Nat.{ℕ, zero, suc, _+_, _*_, _-_, _≤_, _<_}
+use Prim.Native.Nat.{ℕ, zero, suc, _+_, _*_, _-_, _≤_}
 use native.Mathlib.Omega.{arith}
 use native.Mathlib.Decide.{decLe}
 use lib.Dec.{T, eqb, eqb→eq}
@@ -10,7 +10,7 @@ use lib.Seq.{slice}
 use Rattle.rule.specs.Tree.{Tree, empty, epsilon, letter, union, intersection, concatenation, complement, star, below, size}
 use Rattle.event.specs.Event.{Word}
 use Rattle.rule.specs.Accept.{accepts}
-use Rattle.work.specs.Count.{anyTo, sumTo, tallyTo, exits, atRoot, belowRoot, places, walks, owned, fullCount}
+use Rattle.work.specs.Count.{sumTo, tallyTo, exits, atRoot, belowRoot, places, walks, owned, fullCount}
 use Rattle.bits.specs.Bit.{indicator}
 use Rattle.event.proofs.Tests.{and-split}
 use Rattle.work.proofs.Decided.{any-found}
@@ -87,15 +87,18 @@ module _ (w : Word) (i r : ℕ) (e : i + r ≡ suc (length w)) where
   level-bound (letter o c) F h = omega (arith, own-bound (letter o c) F h)
   level-bound (union o a b) F h = omega (arith, own-bound (union o a b) F h, level-bound a F h, level-bound b F h)
   level-bound (intersection o a b) F h = omega (arith, own-bound (intersection o a b) F h)
-  level-bound (concatenation o a b) F h = omega (arith, own-bound (concatenation o a b) F h, level-bound a F h, level-bound b (exits w a F) (exits-since w a i F h))
-  level-bound (star o a) F h = omega (arith, own-bound (star o a) F h, level-bound a (exits w (star o a) F) (exits-since w (star o a) i F h))
+  level-bound (concatenation o a b) F h = omega
+      (arith, own-bound (concatenation o a b) F h, level-bound a F h, level-bound b (exits w a F) (exits-since w a i F h))
+  level-bound (star o a) F h = omega
+      (arith, own-bound (star o a) F h, level-bound a (exits w (star o a) F) (exits-since w (star o a) i F h))
   level-bound (complement o a) F h = omega (arith, own-bound (complement o a) F h)
 
   places-bound : (t : Tree) → places w t i ≤ outer t * (2 * r)
   places-bound t = level-bound t (λ j. eqb j i) (λ j h. let q = eqb→eq j i h in omega arith)
 
 -- 2 (n + 1) + 2 n + … down to where k ends
-sum-bound : (c k d : ℕ) (f : ℕ → ℕ) → ((i r : ℕ) → i ≤ k → i + r ≡ suc (k + d) → f i ≤ c * (2 * r)) → sumTo k f ≤ c * (suc k * (k + 2 + 2 * d))
+sum-bound : (c k d : ℕ) (f : ℕ → ℕ) → ((i r : ℕ) → i ≤ k → i + r ≡ suc (k + d) → f i ≤ c * (2 * r)) → sumTo k f ≤ c *
+    (suc k * (k + 2 + 2 * d))
 sum-bound c zero d f h = omega (arith, h 0 (suc d) (omega arith) (omega arith))
 sum-bound c (suc k) d f h =
     omega (arith, h (suc k) (suc d) (omega arith) (omega arith), sum-bound c k (suc d) f (λ i r l q. h i r (omega arith) (omega arith)))

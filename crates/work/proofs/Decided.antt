@@ -1,8 +1,8 @@
 -- The Boolean sets of numbers decide the sets of At. Assumes nothing.
-use mathlib.Core.Path.{_≡_, refl, sym, subst}
+use mathlib.Core.Path.{_≡_}
 use mathlib.Core.Logic.{_⊎_, inl, inr, _↔_}
-use mathlib.Core.Bool.{Bool, true, false, _&&_, _||_}
-use Prim.Native.Nat.{ℕ, zero, suc, _+_, _≤_, _<_}
+use mathlib.Core.Bool.{Bool, _&&_}
+use Prim.Native.Nat.{ℕ, zero, suc, _≤_}
 use native.Mathlib.Omega.{arith}
 use native.Mathlib.Decide.{decLe}
 use lib.Dec.{T, eqb, eqb→eq, eqb-refl}
@@ -11,7 +11,6 @@ use lib.Seq.{slice}
 use Rattle.rule.specs.Tree.{Tree}
 use Rattle.event.specs.Event.{Word}
 use Rattle.rule.specs.Accept.{accepts}
-use Rattle.work.specs.Span.{Obeys}
 use Rattle.work.proofs.At.{Exit}
 use Rattle.work.specs.Count.{anyTo, exits}
 use Rattle.event.proofs.Tests.{and-split, and-join, or-split, or-left, or-right}
@@ -42,8 +41,11 @@ start-decides w i l j = (λ e. (omega arith, rw e (eqb-refl i)), λ h. eqb→eq 
 
 pub exit-decides : (w : Word) (t : Tree) (F : ℕ → Bool) (E : ℕ → Type 0) → Decides w F E → Decides w (exits w t F) (Exit w t E)
 exit-decides w t F E d k = (
-  λ h. let (j, e, o) = h in
-      (o .fits, found-any k (λ j. F j && accepts t (slice j k w)) j (o .order) (and-join (F j) (accepts t (slice j k w)) (d j .0 e .1) (decides t (slice j k w) .1 (o .word)))),
+  λ h. let (j, e, o) = h in (
+    o .fits,
+    found-any k (λ j. F j && accepts t (slice j k w)) j (o .order)
+        (and-join (F j) (accepts t (slice j k w)) (d j .0 e .1) (decides t (slice j k w) .1 (o .word))),
+  ),
   λ h. let (j, l, p) = any-found k (λ j. F j && accepts t (slice j k w)) (h .1) in
       let q = and-split (F j) (accepts t (slice j k w)) p in
       let m : j ≤ length w = omega (arith, h .0) in

@@ -1,13 +1,12 @@
 -- The ones of the first block are as many as the spans that obey. Assumes nothing.
-use mathlib.Core.Path.{_≡_, refl, sym, ap, subst, _∙_}
-use mathlib.Core.List.{List, [], _∷_}
-use mathlib.Core.Bool.{Bool, true, false, cond}
-use Prim.Native.Nat.{ℕ, zero, suc, _+_, _*_, _-_, _/_, _%_, _≤_, _<_}
+use mathlib.Core.Path.{_≡_, sym, ap, subst, _∙_}
+use mathlib.Core.List.{[]}
+use mathlib.Core.Bool.{Bool, true, false}
+use Prim.Native.Nat.{ℕ, zero, suc, _+_, _*_, _-_, _/_, _%_, _≤_}
 use native.Mathlib.Omega.{arith}
-use lib.Dec.{T}
 use lib.ListN.{length}
 use lib.Seq.{slice}
-use Rattle.bits.specs.Bit.{indicator, onesOf}
+use Rattle.bits.specs.Bit.{indicator}
 use Rattle.bits.proofs.Tally.{tallyBelow, tally-same, tally-none, tally-add}
 use Rattle.bits.proofs.Packed.{run-ones}
 use Rattle.event.specs.Event.{Word}
@@ -24,7 +23,8 @@ use Rattle.work.proofs.TableLaws.{obeys-eq}
 
 module _ (w : Word) (t : Tree) where
   -- of row i only the ends from i to n count
-  row-tally : (i d : ℕ) → i + d ≡ length w → length w ≤ 255 → tallyBelow 256 (obeys w t i) ≡ tallyBelow (suc d) (λ e. accepts t (slice i (i + e) w))
+  row-tally : (i d : ℕ) → i + d ≡ length w → length w ≤ 255 → tallyBelow 256 (obeys w t i) ≡ tallyBelow (suc d)
+      (λ e. accepts t (slice i (i + e) w))
   row-tally i d e h =
       let r = 255 - length w in
       let s : 256 ≡ i + (suc d + r) = omega arith in
@@ -33,12 +33,16 @@ module _ (w : Word) (t : Tree) where
         arith,
         tally-add i (suc d + r) (obeys w t i),
         tally-add (suc d) r (λ k. obeys w t i (i + k)),
-        tally-none i (obeys w t i) (λ j l. same-test (obeys w t i j) false (λ p. let o = obeys-eq w t i j .0 p in omega (arith, o .order)) (λ z. absurd z)),
-        tally-none r (λ k. obeys w t i (i + (suc d + k))) (λ k l. same-test (obeys w t i (i + (suc d + k))) false (λ p. let o = obeys-eq w t i (i + (suc d + k)) .0 p in omega (arith, o .fits)) (λ z. absurd z)),
+        tally-none i (obeys w t i) (λ j l. same-test (obeys w t i j) false (λ p. let o = obeys-eq w t i j .0 p in omega (arith, o .order))
+            (λ z. absurd z)),
+        tally-none r (λ k. obeys w t i (i + (suc d + k)))
+            (λ k l. same-test (obeys w t i (i + (suc d + k))) false
+            (λ p. let o = obeys-eq w t i (i + (suc d + k)) .0 p in omega (arith, o .fits)) (λ z. absurd z)),
         tally-same (suc d) (λ k. obeys w t i (i + k)) (λ k. accepts t (slice i (i + k) w))
             (λ k l. same-test (obeys w t i (i + k)) (accepts t (slice i (i + k) w))
             (λ p. decides t (slice i (i + k) w) .1 (obeys-eq w t i (i + k) .0 p .word))
-            (λ p. obeys-eq w t i (i + k) .1 (record { order = omega arith; fits = omega arith; word = decides t (slice i (i + k) w) .0 p }))),
+            (λ p. obeys-eq w t i (i + k) .1
+            (record { order = omega arith; fits = omega arith; word = decides t (slice i (i + k) w) .0 p }))),
       )
 
   list-length : (b : Bool) (i j : ℕ) (l : Spans) → length (listIf b i j l) ≡ indicator b + length l
@@ -48,7 +52,8 @@ module _ (w : Word) (t : Tree) where
   plus-zero : (i j : ℕ) → indicator (accepts t (slice i (j + 0) w)) ≡ indicator (accepts t (slice i j w))
   plus-zero i j = let e : j + 0 ≡ j = omega arith in ap (λ n. indicator (accepts t (slice i n w))) e
 
-  start-length : (d i j : ℕ) (l : Spans) → length (fromStart w t i d j l) ≡ tallyBelow (suc d) (λ e. accepts t (slice i (j + e) w)) + length l
+  start-length : (d i j : ℕ) (l : Spans) → length (fromStart w t i d j l) ≡ tallyBelow (suc d)
+      (λ e. accepts t (slice i (j + e) w)) + length l
   unfolding tallyBelow
   start-length zero i j l = omega (arith, list-length (accepts t (slice i j w)) i j l, plus-zero i j)
   start-length (suc d) i j l =
@@ -57,7 +62,8 @@ module _ (w : Word) (t : Tree) where
         list-length (accepts t (slice i j w)) i j (fromStart w t i d (suc j) l),
         start-length d i (suc j) l,
         plus-zero i j,
-        tally-same (suc d) (λ e. accepts t (slice i (suc j + e) w)) (λ e. accepts t (slice i (j + suc e) w)) (λ r k. let e : suc j + r ≡ j + suc r = omega arith in ap (λ n. accepts t (slice i n w)) e),
+        tally-same (suc d) (λ e. accepts t (slice i (suc j + e) w)) (λ e. accepts t (slice i (j + suc e) w))
+            (λ r k. let e : suc j + r ≡ j + suc r = omega arith in ap (λ n. accepts t (slice i n w)) e),
       )
 
   -- the rows from i on
@@ -99,7 +105,8 @@ module _ (w : Word) (t : Tree) where
       let s : 64 * blockLength (length w) ≡ 256 * suc (length w) = omega arith in
       run-ones (blockLength (length w)) (λ p. obeys w t (startOf p) (endOf p))
       ∙ ap (λ n. tallyBelow n (λ p. obeys w t (startOf p) (endOf p))) s
-      ∙ tally-same (256 * suc (length w)) (λ p. obeys w t (startOf p) (endOf p)) (From 0) (λ p l. let a : p / 256 ≡ 0 + p / 256 = omega arith in ap (λ n. obeys w t n (p % 256)) a)
+      ∙ tally-same (256 * suc (length w)) (λ p. obeys w t (startOf p) (endOf p)) (From 0)
+      (λ p l. let a : p / 256 ≡ 0 + p / 256 = omega arith in ap (λ n. obeys w t n (p % 256)) a)
       ∙ rows-tally (length w) 0 (omega arith) h
 
   -- found is the number of spans that obey

@@ -1,8 +1,8 @@
 -- The listed spans are exactly those that obey, each once. Assumes nothing.
 use mathlib.Core.Path.{_≡_, refl, sym, ap, subst}
 use mathlib.Core.Logic.{_⊎_, inl, inr, ⊎-elim, _↔_}
-use mathlib.Core.List.{List, [], _∷_, List·Memᴰ, List·Memᴰ·head, List·Memᴰ·tail, List·Memᴰ·not-nil, List·Memᴰ·cases-cons}
-use mathlib.Core.Bool.{Bool, true, false, cond}
+use mathlib.Core.List.{[], List·Memᴰ, List·Memᴰ·head, List·Memᴰ·tail, List·Memᴰ·not-nil, List·Memᴰ·cases-cons}
+use mathlib.Core.Bool.{Bool, true, false}
 use Prim.Native.Nat.{ℕ, zero, suc, _+_, _≤_, _<_}
 use native.Mathlib.Omega.{arith}
 use native.Mathlib.Nat.{eq-or-lt-of-le}
@@ -64,7 +64,8 @@ module _ (w : Word) (t : Tree) where
       list-hit (accepts t (slice i j w)) i j l (i, k) (rw e at h) (ap (λ n. (i, n)) e)
   start-hit (suc d) i j k l a b h = go (eq-or-lt-of-le a) (start-hit d i (suc j) k l)
     where
-      go : (j ≡ k) ⊎ (j < k) → (suc j ≤ k → k ≤ suc j + d → Hit i k → List·Memᴰ (i, k) (fromStart w t i d (suc j) l)) → List·Memᴰ (i, k) (fromStart w t i (suc d) j l)
+      go : (j ≡ k) ⊎ (j < k) → (suc j ≤ k → k ≤ suc j + d → Hit i k → List·Memᴰ (i, k) (fromStart w t i d (suc j) l)) → List·Memᴰ (i, k)
+          (fromStart w t i (suc d) j l)
       go (inl e) r = list-hit (accepts t (slice i j w)) i j (fromStart w t i d (suc j) l) (i, k) (rw (← e) at h) (ap (λ n. (i, n)) (sym e))
       go (inr m) r = list-keep (accepts t (slice i j w)) i j (fromStart w t i d (suc j) l) (i, k) (r m (omega arith) h)
 
@@ -94,18 +95,22 @@ module _ (w : Word) (t : Tree) where
       subst (λ n. List·Memᴰ (n, k) (fromStarts w t 0 i)) (sym e) (start-hit 0 i i k [] (omega arith) (omega arith) (rw e at h))
   starts-hit (suc d) i j k a b c h = go (eq-or-lt-of-le a) (starts-hit d (suc i) j k)
     where
-      go : (i ≡ j) ⊎ (i < j) → (suc i ≤ j → j ≤ k → k ≤ suc i + d → Hit j k → List·Memᴰ (j, k) (fromStarts w t d (suc i))) → List·Memᴰ (j, k) (fromStarts w t (suc d) i)
-      go (inl e) r = subst (λ n. List·Memᴰ (n, k) (fromStarts w t (suc d) i)) e (start-hit (suc d) i i k (fromStarts w t d (suc i)) (omega arith) c (rw (← e) at h))
+      go : (i ≡ j) ⊎ (i < j) → (suc i ≤ j → j ≤ k → k ≤ suc i + d → Hit j k → List·Memᴰ (j, k) (fromStarts w t d (suc i))) → List·Memᴰ
+          (j, k) (fromStarts w t (suc d) i)
+      go (inl e) r = subst (λ n. List·Memᴰ (n, k) (fromStarts w t (suc d) i)) e
+          (start-hit (suc d) i i k (fromStarts w t d (suc i)) (omega arith) c (rw (← e) at h))
       go (inr m) r = start-keep (suc d) i i (fromStarts w t d (suc i)) (j, k) (r m b (omega arith) h)
 
   starts-once : (d i : ℕ) → Once (fromStarts w t d i)
   starts-once zero i = start-once 0 i i [] (λ k m. List·Memᴰ·not-nil m) tt
-  starts-once (suc d) i = start-once (suc d) i i (fromStarts w t d (suc i)) (λ k m. omega (arith, starts-in d (suc i) (i, k) m .0)) (starts-once d (suc i))
+  starts-once (suc d) i = start-once (suc d) i i (fromStarts w t d (suc i)) (λ k m. omega (arith, starts-in d (suc i) (i, k) m .0))
+      (starts-once d (suc i))
 
   pub listed : (i j : ℕ) → List·Memᴰ (i, j) (obeying w t) ↔ Obeys w t i j
   unfolding obeying
   listed i j = (
-    λ m. let h = starts-in (length w) 0 (i, j) m in record { order = h .1; fits = omega (arith, h .2); word = decides t (slice i j w) .0 (h .3) },
+    λ m. let h = starts-in (length w) 0
+        (i, j) m in record { order = h .1; fits = omega (arith, h .2); word = decides t (slice i j w) .0 (h .3) },
     λ o. starts-hit (length w) 0 i j (omega arith) (o .order) (omega (arith, o .fits)) (decides t (slice i j w) .1 (o .word)),
   )
 

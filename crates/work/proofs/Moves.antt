@@ -1,12 +1,15 @@
 -- Parts and moves: where their records and states stand, and how a part's moves are the rule's. Assumes nothing.
 use mathlib.Core.Path.{_≡_, refl}
 use mathlib.Core.Logic.{_⊎_, inl, inr}
-use Prim.Native.Nat.{ℕ, zero, suc, _+_, _*_, _≤_, _<_}
+use Prim.Native.Nat.{ℕ, _+_, _*_, _≤_, _<_}
 use native.Mathlib.Omega.{arith}
 use lib.ListN.{length}
 use Rattle.event.specs.Event.{Word}
-use Rattle.rule.specs.Tree.{Tree, empty, epsilon, letter, union, intersection, concatenation, complement, star, below, size}
-use Rattle.work.specs.Walk.{entry, exit, Part, itself, union-left, union-right, intersection-left, intersection-right, concatenation-left, concatenation-right, complement-inner, star-inner, NodeMove, epsilon-through, letter-use, union-to-left, union-to-right, union-left-out, union-right-out, concatenation-in, concatenation-over, concatenation-out, star-in, star-skip, star-again, star-out, intersection-span, complement-span, RuleMove}
+use Rattle.rule.specs.Tree.{Tree, empty, epsilon, letter, union, intersection, concatenation, complement, star, size}
+use Rattle.work.specs.Walk.{entry, exit, Part, itself, union-left, union-right, intersection-left, intersection-right, concatenation-left}
+use Rattle.work.specs.Walk.{concatenation-right, complement-inner, star-inner, NodeMove, epsilon-through, letter-use, union-to-left}
+use Rattle.work.specs.Walk.{union-to-right, union-left-out, union-right-out, concatenation-in, concatenation-over, concatenation-out, star-in}
+use Rattle.work.specs.Walk.{star-skip, star-again, star-out, intersection-span, complement-span, RuleMove}
 
 -- the states of the nodes with the records x to y - 1
 abbrev pub Within : ℕ → ℕ → ℕ → Type 0

@@ -1,15 +1,17 @@
 -- The special parts of a rule: which they are, and that they stand in rising byte offset. Assumes nothing.
 use mathlib.Core.Path.{_≡_, refl, sym, subst}
-use mathlib.Core.Logic.{_⊎_, inl, inr, ⊎-elim, _↔_}
-use mathlib.Core.List.{List, [], _∷_, _++_, List·Memᴰ, List·Memᴰ·head, List·Memᴰ·tail, List·Memᴰ·not-nil, List·Memᴰ·cases-cons, List·Memᴰ·append-cases, Memᴰ·append-left, Memᴰ·append-right}
-use mathlib.Core.Bool.{Bool}
-use Prim.Native.Nat.{ℕ, zero, suc, _+_, _≤_, _<_}
+use mathlib.Core.Logic.{⊎-elim}
+use mathlib.Core.List.{List, [], _∷_, _++_, List·Memᴰ, List·Memᴰ·head, List·Memᴰ·tail, List·Memᴰ·not-nil, List·Memᴰ·cases-cons}
+use mathlib.Core.List.{List·Memᴰ·append-cases, Memᴰ·append-left, Memᴰ·append-right}
+use Prim.Native.Nat.{ℕ, suc, _+_, _≤_}
 use native.Mathlib.Omega.{arith}
 use lib.Dec.{T}
 use lib.ListN.{length, length-append}
 use Rattle.rule.specs.Tree.{Tree, empty, epsilon, letter, union, intersection, concatenation, complement, star, offset, size, isSpecial}
-use Rattle.rule.specs.Grammar.{Level, Alt, Reads, alt-conj, alt-bar, conj-seq, conj-amp, seq-pre, seq-more, pre-post, pre-bang, post-atom, post-star, atom-letter, atom-empty, atom-epsilon, atom-group}
-use Rattle.work.specs.Walk.{Part, itself, union-left, union-right, intersection-left, intersection-right, concatenation-left, concatenation-right, complement-inner, star-inner}
+use Rattle.rule.specs.Grammar.{Level, Alt, Reads, alt-conj, alt-bar, conj-seq, conj-amp, seq-pre, seq-more, pre-post, pre-bang, post-atom, post-star}
+use Rattle.rule.specs.Grammar.{atom-letter, atom-empty, atom-epsilon, atom-group}
+use Rattle.work.specs.Walk.{Part, itself, union-left, union-right, intersection-left, intersection-right, concatenation-left}
+use Rattle.work.specs.Walk.{concatenation-right, complement-inner, star-inner}
 use Rattle.work.specs.Table.{specialParts, Rising}
 
 -- ---- rising byte offset
@@ -33,20 +35,29 @@ rising {o = o} (alt-bar {u = u} {v = v} {t = t} {r = r} p q) =
     (wider _ _ _ _ (specialParts r) (omega arith) (omega (arith, length-append u (124 ∷ v))) (rising q))
 rising (conj-seq r) = rising r
 rising {o = o} (conj-amp {u = u} {v = v} {t = t} {r = r} p q) =
-    joined o (o + length u) (o + length u) _ (specialParts t) (intersection (o + length u) t r ∷ specialParts r) (omega arith) (rising p)
-    (omega arith, wider (o + length u + 1) _ (o + length u + 1 + length v) _ (specialParts r) (omega arith) (omega (arith, length-append u (38 ∷ v))) (rising q))
+    joined o (o + length u) (o + length u) _ (specialParts t) (intersection (o + length u) t r ∷ specialParts r) (omega arith) (rising p) (
+      omega arith,
+      wider (o + length u + 1) _ (o + length u + 1 + length v) _ (specialParts r) (omega arith)
+          (omega (arith, length-append u (38 ∷ v))) (rising q),
+    )
 rising (seq-pre r) = rising r
 rising {o = o} (seq-more {u = u} {v = v} {t = t} {r = r} p q) =
     joined o (o + length u) (o + length u) _ (specialParts t) (specialParts r) (omega arith) (rising p)
     (wider _ _ _ _ (specialParts r) (omega arith) (omega (arith, length-append u v)) (rising q))
 rising (pre-post r) = rising r
-rising {o = o} (pre-bang {u = u} {t = t} p) = (omega arith, wider (o + 1) _ (o + 1 + length u) _ (specialParts t) (omega arith) (omega arith) (rising p))
+rising {o = o} (pre-bang {u = u} {t = t} p) = (
+  omega arith,
+  wider (o + 1) _ (o + 1 + length u) _ (specialParts t) (omega arith)
+      (omega arith) (rising p),
+)
 rising (post-atom r) = rising r
-rising {o = o} (post-star {u = u} {t = t} p) = wider o o (o + length u) _ (specialParts t) (omega arith) (omega (arith, length-append u (42 ∷ []))) (rising p)
+rising {o = o} (post-star {u = u} {t = t} p) = wider o o (o + length u) _ (specialParts t) (omega arith)
+    (omega (arith, length-append u (42 ∷ []))) (rising p)
 rising (atom-letter h) = omega arith
 rising atom-empty = omega arith
 rising atom-epsilon = omega arith
-rising {o = o} (atom-group {u = u} {t = t} p) = wider (o + 1) o (o + 1 + length u) _ (specialParts t) (omega arith) (omega (arith, length-append (40 ∷ u) (41 ∷ []))) (rising p)
+rising {o = o} (atom-group {u = u} {t = t} p) = wider (o + 1) o (o + 1 + length u) _ (specialParts t) (omega arith)
+    (omega (arith, length-append (40 ∷ u) (41 ∷ []))) (rising p)
 
 unbounded : (lo hi : ℕ) (l : List Tree) → RisingIn lo l hi → Rising lo l
 unbounded lo hi [] h = tt
@@ -65,15 +76,20 @@ listed-special (empty o) u x m = absurd (List·Memᴰ·not-nil m)
 listed-special (epsilon o) u x m = absurd (List·Memᴰ·not-nil m)
 listed-special (letter o c) u x m = absurd (List·Memᴰ·not-nil m)
 listed-special (union o a b) u x m =
-    ⊎-elim (λ k. let (y, p, s) = listed-special a u x k in (y, union-left p, s)) (λ k. let (y, p, s) = listed-special b u (x + size a) k in (y, union-right p, s)) (List·Memᴰ·append-cases (specialParts a) m)
+    ⊎-elim (λ k. let (y, p, s) = listed-special a u x k in (y, union-left p, s))
+    (λ k. let (y, p, s) = listed-special b u (x + size a) k in (y, union-right p, s)) (List·Memᴰ·append-cases (specialParts a) m)
 listed-special (intersection o a b) u x m =
     ⊎-elim (λ k. let (y, p, s) = listed-special a u x k in (y, intersection-left p, s))
-    (λ k. ⊎-elim (λ (e : u ≡ intersection o a b). subst (SpecialPart (intersection o a b) x) (sym e) (x, itself, tt)) (λ n. let (y, p, s) = listed-special b u (x + size a) n in (y, intersection-right p, s)) (List·Memᴰ·cases-cons k))
+    (λ k. ⊎-elim (λ (e : u ≡ intersection o a b). subst (SpecialPart (intersection o a b) x) (sym e) (x, itself, tt))
+    (λ n. let (y, p, s) = listed-special b u (x + size a) n in (y, intersection-right p, s)) (List·Memᴰ·cases-cons k))
     (List·Memᴰ·append-cases (specialParts a) m)
 listed-special (concatenation o a b) u x m =
-    ⊎-elim (λ k. let (y, p, s) = listed-special a u x k in (y, concatenation-left p, s)) (λ k. let (y, p, s) = listed-special b u (x + size a) k in (y, concatenation-right p, s)) (List·Memᴰ·append-cases (specialParts a) m)
+    ⊎-elim (λ k. let (y, p, s) = listed-special a u x k in (y, concatenation-left p, s))
+    (λ k. let (y, p, s) = listed-special b u (x + size a) k in (y, concatenation-right p, s))
+    (List·Memᴰ·append-cases (specialParts a) m)
 listed-special (complement o a) u x m =
-    ⊎-elim (λ (e : u ≡ complement o a). subst (SpecialPart (complement o a) x) (sym e) (x, itself, tt)) (λ k. let (y, p, s) = listed-special a u x k in (y, complement-inner p, s)) (List·Memᴰ·cases-cons m)
+    ⊎-elim (λ (e : u ≡ complement o a). subst (SpecialPart (complement o a) x) (sym e) (x, itself, tt))
+    (λ k. let (y, p, s) = listed-special a u x k in (y, complement-inner p, s)) (List·Memᴰ·cases-cons m)
 listed-special (star o a) u x m = let (y, p, s) = listed-special a u x m in (y, star-inner p, s)
 
 root-listed : (t : Tree) → T (isSpecial t) → List·Memᴰ t (specialParts t)

@@ -1,13 +1,15 @@
 -- The walk of each owner is the walk over the rule, or over the sides of the owner's node. Assumes nothing.
 use mathlib.Core.Path.{_≡_, refl, sym, subst}
 use mathlib.Core.Logic.{_⊎_, inl, inr, ⊎-elim, _↔_}
-use Prim.Native.Nat.{ℕ, zero, suc, _+_, _*_, _≤_, _<_}
+use Prim.Native.Nat.{ℕ, _+_, _*_, _≤_, _<_}
 use native.Mathlib.Omega.{arith}
 use lib.ListN.{length}
 use Rattle.event.specs.Event.{Word}
 use Rattle.rule.specs.Tree.{Tree, empty, epsilon, letter, union, intersection, concatenation, complement, star, below, size}
 use Rattle.work.specs.Span.{Obeys}
-use Rattle.work.specs.Walk.{entry, exit, Part, itself, union-left, union-right, intersection-left, intersection-right, concatenation-left, concatenation-right, complement-inner, star-inner, NodeMove, RuleMove, Owner, whole, special, Begins, at-rule, at-left, at-right, at-inner, Reaches, begin, onward}
+use Rattle.work.specs.Walk.{entry, exit, Part, itself, union-left, union-right, intersection-left, intersection-right, concatenation-left}
+use Rattle.work.specs.Walk.{concatenation-right, complement-inner, star-inner, NodeMove, RuleMove, Owner, whole, special, Begins, at-rule}
+use Rattle.work.specs.Walk.{at-left, at-right, at-inner, Reaches, begin, onward}
 use Rattle.work.proofs.Moves.{Within, part-part, Source, source, move-range, by-part, node-number}
 use Rattle.work.proofs.Ranges.{at-range}
 use Rattle.work.proofs.Reached.{Reached, start, step}
@@ -21,7 +23,8 @@ Owned w (epsilon o) x y i s j = ⊥
 Owned w (letter o c) x y i s j = ⊥
 Owned w (union o a b) x y i s j = Owned w a x y i s j ⊎ Owned w b (x + size a) y i s j
 Owned w (intersection o a b) x y i s j =
-    ((y ≡ x + below (intersection o a b)) × (Reached w a x i s j ⊎ Reached w b (x + size a) i s j)) ⊎ (Owned w a x y i s j ⊎ Owned w b (x + size a) y i s j)
+    ((y ≡ x + below (intersection o a b)) × (Reached w a x i s j ⊎ Reached w b (x + size a) i s j))
+    ⊎ (Owned w a x y i s j ⊎ Owned w b (x + size a) y i s j)
 Owned w (concatenation o a b) x y i s j = Owned w a x y i s j ⊎ Owned w b (x + size a) y i s j
 Owned w (complement o a) x y i s j = ((y ≡ x + below (complement o a)) × Reached w a x i s j) ⊎ Owned w a x y i s j
 Owned w (star o a) x y i s j = Owned w a x y i s j
@@ -73,7 +76,8 @@ module _ (w : Word) where
   from-right t a b x s j s′ j′ r k (inr (inr h)) = h
 
   -- a state below a side's root is no source of the node above
-  no-source : (a b : Tree) (x s e : ℕ) → e ≡ 2 * (x + (size a + size b)) → Within x (x + below a) s ⊎ Within (x + size a) (x + size a + below b) s
+  no-source : (a b : Tree) (x s e : ℕ) → e ≡ 2 * (x + (size a + size b)) → Within x (x + below a) s ⊎ Within (x + size a)
+      (x + size a + below b) s
       → (s ≡ e) ⊎ ((s ≡ exit a x) ⊎ (s ≡ exit b (x + size a))) → ⊥
   no-source a b x s e q (inl r) (inl h) = omega arith
   no-source a b x s e q (inl r) (inr (inl h)) = omega arith
@@ -94,7 +98,8 @@ module _ (w : Word) where
     owned-below (union o a b) x y s j (inl h) = let r = owned-below a x y s j h in (omega arith, r .1)
     owned-below (union o a b) x y s j (inr h) = let r = owned-below b (x + size a) y s j h in (omega arith, r .1)
     owned-below (intersection o a b) x y s j (inl h) =
-        ⊎-elim (λ g. let r = reached-range a x s j g in let e = h .0 in (omega arith, omega arith)) (λ g. let r = reached-range b (x + size a) s j g in let e = h .0 in (omega arith, omega arith)) (h .1)
+        ⊎-elim (λ g. let r = reached-range a x s j g in let e = h .0 in (omega arith, omega arith))
+        (λ g. let r = reached-range b (x + size a) s j g in let e = h .0 in (omega arith, omega arith)) (h .1)
     owned-below (intersection o a b) x y s j (inr (inl h)) = let r = owned-below a x y s j h in (omega arith, r .1)
     owned-below (intersection o a b) x y s j (inr (inr h)) = let r = owned-below b (x + size a) y s j h in (omega arith, r .1)
     owned-below (concatenation o a b) x y s j (inl h) = let r = owned-below a x y s j h in (omega arith, r .1)
@@ -109,27 +114,39 @@ module _ (w : Word) where
     owned-onward (letter o c) x y s j s′ j′ h m = absurd h
     owned-onward (union o a b) x y s j s′ j′ (inl h) m =
         let r = owned-below a x y s j h .0 in
-        inl (owned-onward a x y s j s′ j′ h (from-left (union o a b) a b x s j s′ j′ (omega (arith, r)) (no-source a b x s (entry (union o a b) x) (omega arith) (inl r)) (opened m)))
+        inl (owned-onward a x y s j s′ j′ h
+        (from-left (union o a b) a b x s j s′ j′ (omega (arith, r)) (no-source a b x s (entry (union o a b) x) (omega arith) (inl r))
+        (opened m)))
     owned-onward (union o a b) x y s j s′ j′ (inr h) m =
         let r = owned-below b (x + size a) y s j h .0 in
-        inr (owned-onward b (x + size a) y s j s′ j′ h (from-right (union o a b) a b x s j s′ j′ (omega (arith, r)) (no-source a b x s (entry (union o a b) x) (omega arith) (inr r)) (opened m)))
+        inr (owned-onward b (x + size a) y s j s′ j′ h
+        (from-right (union o a b) a b x s j s′ j′ (omega (arith, r)) (no-source a b x s (entry (union o a b) x) (omega arith) (inr r))
+        (opened m)))
     owned-onward (intersection o a b) x y s j s′ j′ (inl h) m =
         ⊎-elim
-        (λ g. let r = reached-range a x s j g in inl (h .0, inl (step g (from-left (intersection o a b) a b x s j s′ j′ r (λ k. omega (arith, k, r)) (opened m)))))
-        (λ g. let r = reached-range b (x + size a) s j g in inl (h .0, inr (step g (from-right (intersection o a b) a b x s j s′ j′ r (λ k. omega (arith, k, r)) (opened m)))))
+        (λ g. let r = reached-range a x s j g in inl
+        (h .0, inl (step g (from-left (intersection o a b) a b x s j s′ j′ r (λ k. omega (arith, k, r)) (opened m)))))
+        (λ g. let r = reached-range b (x + size a) s j g in inl
+        (h .0, inr (step g (from-right (intersection o a b) a b x s j s′ j′ r (λ k. omega (arith, k, r)) (opened m)))))
         (h .1)
     owned-onward (intersection o a b) x y s j s′ j′ (inr (inl h)) m =
         let r = owned-below a x y s j h .0 in
-        inr (inl (owned-onward a x y s j s′ j′ h (from-left (intersection o a b) a b x s j s′ j′ (omega (arith, r)) (λ k. omega (arith, k, r)) (opened m))))
+        inr (inl (owned-onward a x y s j s′ j′ h
+        (from-left (intersection o a b) a b x s j s′ j′ (omega (arith, r)) (λ k. omega (arith, k, r)) (opened m))))
     owned-onward (intersection o a b) x y s j s′ j′ (inr (inr h)) m =
         let r = owned-below b (x + size a) y s j h .0 in
-        inr (inr (owned-onward b (x + size a) y s j s′ j′ h (from-right (intersection o a b) a b x s j s′ j′ (omega (arith, r)) (λ k. omega (arith, k, r)) (opened m))))
+        inr (inr (owned-onward b (x + size a) y s j s′ j′ h
+        (from-right (intersection o a b) a b x s j s′ j′ (omega (arith, r)) (λ k. omega (arith, k, r)) (opened m))))
     owned-onward (concatenation o a b) x y s j s′ j′ (inl h) m =
         let r = owned-below a x y s j h .0 in
-        inl (owned-onward a x y s j s′ j′ h (from-left (concatenation o a b) a b x s j s′ j′ (omega (arith, r)) (no-source a b x s (entry (concatenation o a b) x) (omega arith) (inl r)) (opened m)))
+        inl (owned-onward a x y s j s′ j′ h
+        (from-left (concatenation o a b) a b x s j s′ j′ (omega (arith, r))
+        (no-source a b x s (entry (concatenation o a b) x) (omega arith) (inl r)) (opened m)))
     owned-onward (concatenation o a b) x y s j s′ j′ (inr h) m =
         let r = owned-below b (x + size a) y s j h .0 in
-        inr (owned-onward b (x + size a) y s j s′ j′ h (from-right (concatenation o a b) a b x s j s′ j′ (omega (arith, r)) (no-source a b x s (entry (concatenation o a b) x) (omega arith) (inr r)) (opened m)))
+        inr (owned-onward b (x + size a) y s j s′ j′ h
+        (from-right (concatenation o a b) a b x s j s′ j′ (omega (arith, r))
+        (no-source a b x s (entry (concatenation o a b) x) (omega arith) (inr r)) (opened m)))
     owned-onward (complement o a) x y s j s′ j′ (inl h) m =
         let r = reached-range a x s j (h .1) in
         inl (h .0, step (h .1) (⊎-elim (λ k. absurd (omega (arith, k, r))) (λ k. k) (opened m)))
@@ -138,7 +155,8 @@ module _ (w : Word) where
         inr (owned-onward a x y s j s′ j′ h (⊎-elim (λ k. absurd (omega (arith, k, r))) (λ k. k) (opened m)))
     owned-onward (star o a) x y s j s′ j′ h m =
         let r = owned-below a x y s j h .0 in
-        owned-onward a x y s j s′ j′ h (⊎-elim (λ k. absurd (⊎-elim (λ q. omega (arith, q, r)) (λ q. omega (arith, q, r)) k)) (λ k. k) (opened m))
+        owned-onward a x y s j s′ j′ h (⊎-elim (λ k. absurd (⊎-elim (λ q. omega (arith, q, r)) (λ q. omega (arith, q, r)) k)) (λ k. k)
+        (opened m))
 
     walk-onward : (t : Tree) (u : Owner) (s j s′ j′ : ℕ) → WalkOf w t u i s j → RuleMove w t 0 s j s′ j′ → WalkOf w t u i s′ j′
     walk-onward t whole s j s′ j′ h m = step h m
@@ -159,7 +177,8 @@ module _ (w : Word) where
     begins-walk : {t : Tree} {u : Owner} {s : ℕ} → Begins t u s → WalkOf w t u i s i
     begins-walk at-rule = start
     begins-walk (at-left {o} {x} {a} {b} p) = part-owned p (x + below (intersection o a b)) (entry a x) i (inl (refl, inl start))
-    begins-walk (at-right {o} {x} {a} {b} p) = part-owned p (x + below (intersection o a b)) (entry b (x + size a)) i (inl (refl, inr start))
+    begins-walk (at-right {o} {x} {a} {b} p) = part-owned p (x + below (intersection o a b)) (entry b (x + size a)) i
+        (inl (refl, inr start))
     begins-walk (at-inner {o} {x} {a} p) = part-owned p (x + below (complement o a)) (entry a x) i (inl (refl, start))
 
     pub reaches-walk : {t : Tree} {u : Owner} {s j : ℕ} → Reaches w t u i s j → WalkOf w t u i s j
@@ -167,7 +186,8 @@ module _ (w : Word) where
     reaches-walk {t} {u} (onward {s} {j} {s′} {j′} r m) = walk-onward t u s j s′ j′ (reaches-walk r) m
 
     -- ---- and back
-    reached-reaches : {t a : Tree} {x : ℕ} {u : Owner} {s j : ℕ} → Part t 0 a x → Begins t u (entry a x) → Reached w a x i s j → Reaches w t u i s j
+    reached-reaches : {t a : Tree} {x : ℕ} {u : Owner} {s j : ℕ} → Part t 0 a x → Begins t u (entry a x) → Reached w a x i s j
+        → Reaches w t u i s j
     reached-reaches p b start = begin b
     reached-reaches p b (step r m) = onward (reached-reaches p b r) (by-part w p m)
 
@@ -179,13 +199,17 @@ module _ (w : Word) where
     owned-reaches t (union o a b) x y s j p (inr h) = owned-reaches t b (x + size a) y s j (part-part p (union-right itself)) h
     owned-reaches t (intersection o a b) x y s j p (inl h) =
         subst (λ (z : ℕ). Reaches w t (special z) i s j) (sym (h .0))
-        (⊎-elim (λ g. reached-reaches (part-part p (intersection-left itself)) (at-left p) g) (λ g. reached-reaches (part-part p (intersection-right itself)) (at-right p) g) (h .1))
+        (⊎-elim (λ g. reached-reaches (part-part p (intersection-left itself)) (at-left p) g)
+        (λ g. reached-reaches (part-part p (intersection-right itself)) (at-right p) g) (h .1))
     owned-reaches t (intersection o a b) x y s j p (inr (inl h)) = owned-reaches t a x y s j (part-part p (intersection-left itself)) h
-    owned-reaches t (intersection o a b) x y s j p (inr (inr h)) = owned-reaches t b (x + size a) y s j (part-part p (intersection-right itself)) h
+    owned-reaches t (intersection o a b) x y s j p (inr (inr h)) = owned-reaches t b (x + size a) y s j
+        (part-part p (intersection-right itself)) h
     owned-reaches t (concatenation o a b) x y s j p (inl h) = owned-reaches t a x y s j (part-part p (concatenation-left itself)) h
-    owned-reaches t (concatenation o a b) x y s j p (inr h) = owned-reaches t b (x + size a) y s j (part-part p (concatenation-right itself)) h
+    owned-reaches t (concatenation o a b) x y s j p (inr h) = owned-reaches t b (x + size a) y s j
+        (part-part p (concatenation-right itself)) h
     owned-reaches t (complement o a) x y s j p (inl h) =
-        subst (λ (z : ℕ). Reaches w t (special z) i s j) (sym (h .0)) (reached-reaches (part-part p (complement-inner itself)) (at-inner p) (h .1))
+        subst (λ (z : ℕ). Reaches w t (special z) i s j) (sym (h .0))
+        (reached-reaches (part-part p (complement-inner itself)) (at-inner p) (h .1))
     owned-reaches t (complement o a) x y s j p (inr h) = owned-reaches t a x y s j (part-part p (complement-inner itself)) h
     owned-reaches t (star o a) x y s j p h = owned-reaches t a x y s j (part-part p (star-inner itself)) h
 
@@ -200,4 +224,8 @@ module _ (w : Word) where
 
     -- from start i the exit of the rule is reached at j exactly if span (i, j) obeys
     pub reaches-exit : (t : Tree) (j : ℕ) → Reaches w t whole i (exit t 0) j ↔ Obeys w t i j
-    reaches-exit t j = (λ r. walked-exit w t 0 i j l .0 (reaches-walk r), λ o. walk-reaches t whole (exit t 0) j (walked-exit w t 0 i j l .1 o))
+    reaches-exit t j = (
+      λ r. walked-exit w t 0 i j l .0 (reaches-walk r),
+      λ o. walk-reaches t whole (exit t 0) j
+          (walked-exit w t 0 i j l .1 o),
+    )

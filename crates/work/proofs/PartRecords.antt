@@ -1,15 +1,16 @@
 -- The records of a part are the run of the rule's records that its states name. Assumes nothing.
-use mathlib.Core.Path.{_≡_, refl, sym, ap, _∙_}
-use mathlib.Core.List.{List, [], _∷_, _++_, append-assoc, append-nil}
-use Prim.Native.Nat.{ℕ, suc, _+_}
+use mathlib.Core.Path.{_≡_, sym, ap, _∙_}
+use mathlib.Core.List.{List, [], _++_, append-assoc, append-nil}
+use Prim.Native.Nat.{ℕ, _+_}
 use native.Mathlib.Omega.{arith}
-use lib.ListN.{length, take, drop, length-append}
+use lib.ListN.{length, drop, length-append}
 use lib.Seq.{slice, take-at, drop-at}
 use Rattle.rule.specs.declared.Kind.the-variants.{Union, Intersection, Concatenation, Complement, Star}
 use Rattle.rule.specs.declared.Node.{Node}
-use Rattle.rule.specs.Tree.{Tree, empty, epsilon, letter, union, intersection, concatenation, complement, star, below, size, node, records}
+use Rattle.rule.specs.Tree.{Tree, size, node, records}
 use Rattle.rule.proofs.RecordLaws.{records-length}
-use Rattle.work.specs.Walk.{Part, itself, union-left, union-right, intersection-left, intersection-right, concatenation-left, concatenation-right, complement-inner, star-inner}
+use Rattle.work.specs.Walk.{Part, itself, union-left, union-right, intersection-left, intersection-right, concatenation-left}
+use Rattle.work.specs.Walk.{concatenation-right, complement-inner, star-inner}
 
 -- u's records stand in l behind `front`, which has as many records as lie between x and y
 record Run (l : List Node) (x : ℕ) (u : Tree) (y : ℕ) : Type 0 where
@@ -24,7 +25,8 @@ in-front {u = u} m r =
     record {
       front = r .front;
       rest = r .rest ++ m;
-      whole = ap (_++ m) (r .whole) ∙ append-assoc (r .front) (records u ++ r .rest) m ∙ ap (r .front ++_) (append-assoc (records u) (r .rest) m);
+      whole = ap (_++ m) (r .whole) ∙ append-assoc (r .front) (records u ++ r .rest) m ∙ ap (r .front ++_)
+          (append-assoc (records u) (r .rest) m);
       long = r .long;
     }
 

@@ -1,7 +1,7 @@
 -- Which states a tree has in At, and so which part of At holds a state. Assumes nothing.
-use mathlib.Core.Path.{_≡_, refl}
+use mathlib.Core.Path.{_≡_}
 use mathlib.Core.Logic.{_⊎_, inl, inr}
-use Prim.Native.Nat.{ℕ, zero, suc, _+_, _*_, _≤_, _<_}
+use Prim.Native.Nat.{ℕ, _+_}
 use native.Mathlib.Omega.{arith}
 use Rattle.event.specs.Event.{Word}
 use Rattle.rule.specs.Tree.{Tree, empty, epsilon, letter, union, intersection, concatenation, complement, star, below, size}
@@ -53,7 +53,8 @@ module _ (w : Word) where
   at-left t a b x E F G s j e r (inr (inl h)) = h
   at-left t a b x E F G s j e r (inr (inr h)) = absurd (omega (arith, at-range b (x + size a) G s j h))
 
-  pub at-right : (t a b : Tree) (x : ℕ) (E F G : ℕ → Type 0) (s j : ℕ) → below t ≡ size a + size b → Within (x + size a) (x + size a + size b) s
+  pub at-right : (t a b : Tree) (x : ℕ) (E F G : ℕ → Type 0) (s j : ℕ) → below t ≡ size a + size b → Within (x + size a)
+      (x + size a + size b) s
       → Own w t x E s j ⊎ (At w a x F s j ⊎ At w b (x + size a) G s j) → At w b (x + size a) G s j
   at-right t a b x E F G s j e r (inl h) = absurd (omega (arith, own-range t x E s j h))
   at-right t a b x E F G s j e r (inr (inl h)) = absurd (omega (arith, at-range a x F s j h))

@@ -1,8 +1,9 @@
 -- Sizes add up; a size is one number. Assumes nothing.
 use mathlib.Core.Path.{_≡_, refl, sym, ap, subst, _∙_}
 use mathlib.Core.Logic.{_⊎_, inl, inr, ⊎-elim, _↔_}
-use mathlib.Core.List.{List, [], _∷_, _++_, List·Memᴰ, List·Memᴰ·head, List·Memᴰ·tail, List·Memᴰ·not-nil, List·Memᴰ·cases-cons, List·Memᴰ·append-cases, Memᴰ·append-left, Memᴰ·append-right, Memᴰ·cast, List·Memᴰ·eq-of-singleton}
-use Prim.Native.Nat.{ℕ, suc, _+_, _≤_}
+use mathlib.Core.List.{List, [], _∷_, _++_, List·Memᴰ, List·Memᴰ·head, List·Memᴰ·tail, List·Memᴰ·not-nil, List·Memᴰ·cases-cons}
+use mathlib.Core.List.{List·Memᴰ·append-cases, Memᴰ·append-left, Memᴰ·append-right, Memᴰ·cast, List·Memᴰ·eq-of-singleton}
+use Prim.Native.Nat.{ℕ, _+_, _≤_}
 use native.Mathlib.Omega.{arith}
 use lib.ListN.{length, length-append}
 use Rattle.work.specs.SizeOf.{Once, SizeOf}
@@ -67,14 +68,16 @@ shorter : {A : Type 0} (l m : List A) → Once l → ((p : A) → List·Memᴰ p
 shorter [] m d h = omega arith
 shorter {A} (x ∷ l) m d h =
     let r = around x m (h x (List·Memᴰ·head refl)) in
-    let k = shorter l (r .front ++ r .rest) (d .1) (λ p a. left p a r (List·Memᴰ·append-cases (r .front) (subst (List·Memᴰ p) (r .whole) (h p (List·Memᴰ·tail a))))) in
+    let k = shorter l (r .front ++ r .rest) (d .1)
+    (λ p a. left p a r (List·Memᴰ·append-cases (r .front) (subst (List·Memᴰ p) (r .whole) (h p (List·Memᴰ·tail a))))) in
     omega (arith, simp length-append at k, simp length-append at (ap length (r .whole)))
   where
     after : (p : A) → List·Memᴰ p l → (r : Around x m) → (p ≡ x) ⊎ List·Memᴰ p (r .rest) → List·Memᴰ p (r .front ++ r .rest)
     after p a r (inl e) = absurd (d .0 (Memᴰ·cast (sym e) a))
     after p a r (inr b) = Memᴰ·append-right (r .front) b
 
-    left : (p : A) → List·Memᴰ p l → (r : Around x m) → List·Memᴰ p (r .front) ⊎ List·Memᴰ p (x ∷ r .rest) → List·Memᴰ p (r .front ++ r .rest)
+    left : (p : A) → List·Memᴰ p l → (r : Around x m) → List·Memᴰ p (r .front) ⊎ List·Memᴰ p (x ∷ r .rest) → List·Memᴰ p
+        (r .front ++ r .rest)
     left p a r (inl b) = Memᴰ·append-left (r .rest) b
     left p a r (inr b) = after p a r (List·Memᴰ·cases-cons b)
 

@@ -1,19 +1,19 @@
 -- How spans join and part, and what a span that obeys a rule gives. Assumes nothing.
 use mathlib.Core.Path.{_≡_, refl, sym, ap, subst, _∙_}
-use mathlib.Core.List.{List, [], _∷_, _++_, cons-eq-cons}
-use Prim.Native.Nat.{ℕ, zero, suc, _+_, _-_, _≤_, _<_}
+use mathlib.Core.List.{[], _∷_, _++_, cons-eq-cons}
+use Prim.Native.Nat.{ℕ, suc, _+_, _-_, _≤_, _<_}
 use native.Mathlib.Omega.{arith}
 use lib.ListN.{length, getD, take, drop, length-append, take-append-drop}
 use lib.Seq.{slice, slice-empty, slice-cons, length-slice, take-take, length-take-le, drop-append-le, take-at, drop-at}
-use Rattle.rule.specs.Tree.{Tree, empty, epsilon, letter, union, intersection, concatenation, complement, star}
+use Rattle.rule.specs.Tree.{Tree, empty, epsilon, letter, concatenation, star}
 use Rattle.event.specs.Event.{Word}
-use Rattle.rule.specs.Lang.{Concat, Power, Lang}
 use Rattle.work.specs.Span.{Obeys}
 
 pub slice-join : (w : Word) (j k l : ℕ) → j ≤ k → k ≤ l → l ≤ length w → slice j k w ++ slice k l w ≡ slice j l w
 slice-join w j k l p q r =
     let h : j ≤ length (take k w) = rw (length-take-le k w (omega arith)) p in
-    sym (ap (drop j) (sym (take-append-drop k (take l w)) ∙ ap (λ z. z ++ slice k l w) (take-take k l w q)) ∙ drop-append-le j (take k w) (slice k l w) h)
+    sym (ap (drop j) (sym (take-append-drop k (take l w)) ∙ ap (λ z. z ++ slice k l w) (take-take k l w q)) ∙ drop-append-le j (take k w)
+    (slice k l w) h)
 
 -- the cut of a span's word is a cut of the span
 pub record Parted (w : Word) (j l : ℕ) (u v : Word) : Type 0 where
@@ -28,13 +28,16 @@ part w j l u v p r e =
     let n : length u + length v ≡ l - j = sym (length-append u v) ∙ ap length (sym e) ∙ length-slice j l w r in
     let q : j + length u ≤ l = omega arith in
     let s : length (slice j (j + length u) w) ≡ length u = length-slice j (j + length u) w (omega arith) ∙ omega arith in
-    let f : u ++ v ≡ slice j (j + length u) w ++ slice (j + length u) l w = sym e ∙ sym (slice-join w j (j + length u) l (omega arith) q r) in
+    let f : u ++ v ≡ slice j (j + length u) w ++ slice (j + length u) l w = sym e ∙ sym
+    (slice-join w j (j + length u) l (omega arith) q r) in
     record {
       mid = j + length u;
       low = omega arith;
       high = q;
-      left = sym (take-at (slice j (j + length u) w) (slice (j + length u) l w) (length u) s) ∙ ap (take (length u)) (sym f) ∙ take-at u v (length u) refl;
-      right = sym (drop-at (slice j (j + length u) w) (slice (j + length u) l w) (length u) s) ∙ ap (drop (length u)) (sym f) ∙ drop-at u v (length u) refl;
+      left = sym (take-at (slice j (j + length u) w) (slice (j + length u) l w) (length u) s) ∙ ap (take (length u)) (sym f) ∙ take-at u v
+          (length u) refl;
+      right = sym (drop-at (slice j (j + length u) w) (slice (j + length u) l w) (length u) s) ∙ ap (drop (length u)) (sym f) ∙ drop-at u v
+          (length u) refl;
     }
 
 -- an empty span
@@ -67,7 +70,8 @@ concatenation-obeys w o a b j k l p q =
       word = (slice j k w, slice k l w, sym (slice-join w j k l (p .order) (q .order) (q .fits)), p .word, q .word);
     }
 
-pub obeys-concatenation : (w : Word) (o : ℕ) (a b : Tree) (j l : ℕ) → Obeys w (concatenation o a b) j l → (k : ℕ) × Obeys w a j k × Obeys w b k l
+pub obeys-concatenation : (w : Word) (o : ℕ) (a b : Tree) (j l : ℕ) → Obeys w (concatenation o a b) j l
+    → (k : ℕ) × Obeys w a j k × Obeys w b k l
 obeys-concatenation w o a b j l h =
     let (u, v, e, hu, hv) = h .word in
     let p = part w j l u v (h .order) (h .fits) e in (

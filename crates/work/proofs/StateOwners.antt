@@ -1,11 +1,12 @@
 -- A walk stays with its owner: every place that it reaches is at a state that its owner owns. Assumes nothing.
-use mathlib.Core.Path.{_≡_, refl, sym, subst}
+use mathlib.Core.Path.{_≡_, sym, subst}
 use mathlib.Core.Logic.{_⊎_, inl, inr, ⊎-elim}
-use Prim.Native.Nat.{ℕ, suc, _+_, _≤_}
+use Prim.Native.Nat.{ℕ, _+_, _≤_}
 use lib.ListN.{length}
 use Rattle.event.specs.Event.{Word}
-use Rattle.rule.specs.Tree.{Tree, empty, epsilon, letter, union, intersection, concatenation, complement, star, below, size}
-use Rattle.work.specs.Walk.{entry, exit, Owner, whole, special, Owns, of-rule, of-union-left, of-union-right, of-concatenation-left, of-concatenation-right, of-star, of-intersection-left, of-intersection-right, of-complement, Reaches}
+use Rattle.rule.specs.Tree.{Tree, empty, epsilon, letter, union, intersection, concatenation, complement, star, size}
+use Rattle.work.specs.Walk.{entry, exit, Owner, whole, special, Owns, of-rule, of-union-left, of-union-right, of-concatenation-left}
+use Rattle.work.specs.Walk.{of-concatenation-right, of-star, of-intersection-left, of-intersection-right, of-complement, Reaches}
 use Rattle.work.proofs.At.{Exit, Own, Under, At}
 use Rattle.work.proofs.Reached.{Reached}
 use Rattle.work.proofs.Forward.{reached-at}
@@ -59,7 +60,8 @@ module _ (w : Word) (t : Tree) where
     owned-state (union c a b) x y s j o (inl h) = owned-state a x y s j (of-union-left o) h
     owned-state (union c a b) x y s j o (inr h) = owned-state b (x + size a) y s j (of-union-right o) h
     owned-state (intersection c a b) x y s j o (inl h) =
-        called (h .0) (⊎-elim (λ g. reached-state a x s j (of-intersection-left o) g) (λ g. reached-state b (x + size a) s j (of-intersection-right o) g) (h .1))
+        called (h .0) (⊎-elim (λ g. reached-state a x s j (of-intersection-left o) g)
+        (λ g. reached-state b (x + size a) s j (of-intersection-right o) g) (h .1))
     owned-state (intersection c a b) x y s j o (inr (inl h)) = owned-state a x y s j (of-intersection-left o) h
     owned-state (intersection c a b) x y s j o (inr (inr h)) = owned-state b (x + size a) y s j (of-intersection-right o) h
     owned-state (concatenation c a b) x y s j o (inl h) = owned-state a x y s j (of-concatenation-left o) h

@@ -1,9 +1,9 @@
 -- What the span table's numbers show. Assumes nothing.
-use mathlib.Core.Path.{_≡_, refl, sym, ap, subst, _∙_}
+use mathlib.Core.Path.{_≡_, refl, sym, ap, _∙_}
 use mathlib.Core.Logic.{_↔_}
 use mathlib.Core.List.{List, [], _∷_, _++_}
-use mathlib.Core.Bool.{Bool, true, _&&_}
-use Prim.Native.Nat.{ℕ, zero, suc, _+_, _*_, _/_, _%_, _≤_, _<_}
+use mathlib.Core.Bool.{_&&_}
+use Prim.Native.Nat.{ℕ, zero, suc, _+_, _*_, _≤_, _<_}
 use native.Mathlib.Omega.{arith}
 use lib.Dec.{T, leb, leb→le, le→leb}
 use lib.ListN.{length, getD, length-append}
@@ -24,7 +24,9 @@ obeys-eq w t i j = (
   λ h. let p = and-split (leb i j && leb j (length w)) (accepts t (slice i j w)) h in
       let q = and-split (leb i j) (leb j (length w)) (p .0) in
       record { order = leb→le i j (q .0); fits = leb→le j (length w) (q .1); word = decides t (slice i j w) .0 (p .1) },
-  λ o. and-join (leb i j && leb j (length w)) (accepts t (slice i j w)) (and-join (leb i j) (leb j (length w)) (le→leb i j (o .order)) (le→leb j (length w) (o .fits))) (decides t (slice i j w) .1 (o .word)),
+  λ o. and-join (leb i j && leb j (length w)) (accepts t (slice i j w))
+      (and-join (leb i j) (leb j (length w)) (le→leb i j (o .order)) (le→leb j (length w) (o .fits)))
+      (decides t (slice i j w) .1 (o .word)),
 )
 
 -- ---- lengths
@@ -42,7 +44,8 @@ parts-length (empty o) = refl
 parts-length (epsilon o) = refl
 parts-length (letter o c) = refl
 parts-length (union o a b) = length-append (specialParts a) (specialParts b) ∙ omega (arith, parts-length a, parts-length b)
-parts-length (intersection o a b) = length-append (specialParts a) (intersection o a b ∷ specialParts b) ∙ omega (arith, parts-length a, parts-length b)
+parts-length (intersection o a b) = length-append (specialParts a) (intersection o a b ∷ specialParts b) ∙ omega
+    (arith, parts-length a, parts-length b)
 parts-length (concatenation o a b) = length-append (specialParts a) (specialParts b) ∙ omega (arith, parts-length a, parts-length b)
 parts-length (complement o a) = ap suc (parts-length a)
 parts-length (star o a) = parts-length a
@@ -64,8 +67,10 @@ blocks-bit w (t ∷ l) d zero p h k =
     let e : 64 * (0 * blockLength (length w)) + p ≡ p = omega arith in
     ap (bitAt (block w t ++ blocks w l)) e ∙ bit-front (block w t) (blocks w l) p (omega (arith, block-length w t))
 blocks-bit w (t ∷ l) d (suc b) p h k =
-    let e : 64 * (suc b * blockLength (length w)) + p ≡ 64 * length (block w t) + (64 * (b * blockLength (length w)) + p) = omega (arith, block-length w t) in
-    ap (bitAt (block w t ++ blocks w l)) e ∙ bit-behind (block w t) (blocks w l) (64 * (b * blockLength (length w)) + p) ∙ blocks-bit w l d b p (omega arith) k
+    let e : 64 * (suc b * blockLength (length w)) + p ≡ 64 * length (block w t) + (64 * (b * blockLength (length w)) + p) = omega
+    (arith, block-length w t) in
+    ap (bitAt (block w t ++ blocks w l)) e ∙ bit-behind (block w t) (blocks w l) (64 * (b * blockLength (length w)) + p)
+    ∙ blocks-bit w l d b p (omega arith) k
 
 -- a block's bits hold the block
 holds : (w : Word) (t : Tree) (run : List ℕ) (first : ℕ) → length w ≤ 255
@@ -77,11 +82,18 @@ holds w t run first short h =
           let s : startOf (position i j) ≡ i = omega (arith, o .fits) in
           let e : endOf (position i j) ≡ j = omega (arith, o .fits) in
           h (position i j) a ∙ rw (s, e) (of-T (obeys w t i j) (obeys-eq w t i j .1 o));
-      others = λ p l e. (startOf p, endOf p, omega arith, obeys-eq w t (startOf p) (endOf p) .0 (T-of (obeys w t (startOf p) (endOf p)) (sym (h p l) ∙ e)));
+      others = λ p l e. (
+        startOf p,
+        endOf p,
+        omega arith,
+        obeys-eq w t (startOf p) (endOf p) .0
+            (T-of (obeys w t (startOf p) (endOf p)) (sym (h p l) ∙ e)),
+      );
     }
 
 -- the table's block number b is that of the whole rule, or of the special part that it is for
-pub table-holds : (w : Word) (t : Tree) (b : ℕ) → length w ≤ 255 → b ≤ specials t → HoldsBlock w (getD (t ∷ specialParts t) b t) (table w t) (b * blockLength (length w))
+pub table-holds : (w : Word) (t : Tree) (b : ℕ) → length w ≤ 255 → b ≤ specials t → HoldsBlock w (getD (t ∷ specialParts t) b t) (table w t)
+    (b * blockLength (length w))
 unfolding table
 table-holds w t b short h =
     holds w (getD (t ∷ specialParts t) b t) (blocks w (t ∷ specialParts t)) (b * blockLength (length w)) short

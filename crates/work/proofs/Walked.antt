@@ -1,12 +1,12 @@
 -- The walk over a tree reaches exactly the places of At; and the root's exit at j, from i, exactly where span (i, j) obeys. Assumes nothing.
-use mathlib.Core.Path.{_≡_, refl, subst, sym}
-use mathlib.Core.Logic.{_↔_, inl, inr}
+use mathlib.Core.Path.{_≡_, subst}
+use mathlib.Core.Logic.{_↔_}
 use Prim.Native.Nat.{ℕ, _≤_}
 use lib.ListN.{length}
 use Rattle.event.specs.Event.{Word}
 use Rattle.rule.specs.Tree.{Tree}
 use Rattle.work.specs.Span.{Obeys}
-use Rattle.work.specs.Walk.{entry, exit}
+use Rattle.work.specs.Walk.{exit}
 use Rattle.work.proofs.At.{At}
 use Rattle.work.proofs.Ranges.{at-exit}
 use Rattle.work.proofs.Reached.{Reached, start, step}

@@ -1,7 +1,7 @@
 -- The full work count is the size of the collection that document 01 describes. Assumes nothing.
 use mathlib.Core.Path.{_≡_, refl, sym, ap, subst, _∙_}
 use mathlib.Core.Logic.{_⊎_, inl, inr, ⊎-elim, _↔_}
-use Prim.Native.Nat.{ℕ, suc, _+_, _*_, _≤_, _<_}
+use Prim.Native.Nat.{ℕ, suc, _+_, _≤_}
 use native.Mathlib.Omega.{arith}
 use lib.ListN.{length}
 use Rattle.event.specs.Event.{Word}
@@ -63,7 +63,8 @@ module _ (w : Word) where
       (λ v g h. let e : g .0 ≡ h .0 = one-node (g .1) (h .1) in omega (arith, e, visits-range a x v g, visits-range b (x + size a) v h))
       p q
 
-  either-side : (P Q : ℕ → ℕ → ℕ → ℕ → Type 0) (v : Visit) → (BySpecial P v ⊎ BySpecial Q v) ↔ BySpecial (λ y i s j. P y i s j ⊎ Q y i s j) v
+  either-side : (P Q : ℕ → ℕ → ℕ → ℕ → Type 0) (v : Visit) → (BySpecial P v ⊎ BySpecial Q v) ↔ BySpecial
+      (λ y i s j. P y i s j ⊎ Q y i s j) v
   either-side P Q v = (
     λ h. ⊎-elim (λ g. (g .0, g .1, g .2, inl (g .3))) (λ g. (g .0, g .1, g .2, inr (g .3))) h,
     λ h. ⊎-elim (λ g. inl (h .0, h .1, h .2, g)) (λ g. inr (h .0, h .1, h .2, g)) (h .3),
@@ -72,14 +73,21 @@ module _ (w : Word) where
   sides-size : (a b : Tree) (x : ℕ) → SizeOf (Specials a x) (owned w a) → SizeOf (Specials b (x + size a)) (owned w b)
       → SizeOf (BySpecial (λ y i s j. Owned w a x y i s j ⊎ Owned w b (x + size a) y i s j)) (owned w a + owned w b)
   sides-size a b x p q =
-      size-same (λ v. Specials a x v ⊎ Specials b (x + size a) v) (BySpecial (λ y i s j. Owned w a x y i s j ⊎ Owned w b (x + size a) y i s j))
+      size-same (λ v. Specials a x v ⊎ Specials b (x + size a) v)
+      (BySpecial (λ y i s j. Owned w a x y i s j ⊎ Owned w b (x + size a) y i s j))
       (owned w a + owned w b) (either-side (Owned w a x) (Owned w b (x + size a))) (beside a b x p q)
 
   -- the two walks of `&`
-  pub both-size : (a b : Tree) (x : ℕ) (u : Owner) → SizeOf (λ v. All w u (Reached w a x) v ⊎ All w u (Reached w b (x + size a)) v) (walks w a + walks w b)
+  pub both-size : (a b : Tree) (x : ℕ) (u : Owner) → SizeOf (λ v. All w u (Reached w a x) v ⊎ All w u (Reached w b (x + size a)) v)
+      (walks w a + walks w b)
   both-size a b x u =
       size-sum (All w u (Reached w a x)) (All w u (Reached w b (x + size a))) (walks w a) (walks w b)
-      (λ v g h. omega (arith, reached-range w (v .start) (g .1) a x (v .state) (v .used) (g .2), reached-range w (v .start) (h .1) b (x + size a) (v .state) (v .used) (h .2)))
+      (λ v g h. omega (
+        arith,
+        reached-range w (v .start) (g .1) a x (v .state) (v .used) (g .2),
+        reached-range w (v .start) (h .1) b
+            (x + size a) (v .state) (v .used) (h .2),
+      ))
       (walks-size w u a x) (walks-size w u b (x + size a))
 
   specials-size : (t : Tree) (x : ℕ) → SizeOf (Specials t x) (owned w t)
@@ -96,16 +104,17 @@ module _ (w : Word) where
       size-same (λ v. own v ⊎ inner v) (Specials (intersection o a b) x) ((walks w a + walks w b) + (owned w a + owned w b))
       (λ v. (
         λ h. ⊎-elim
-          (λ g. ⊎-elim (λ k. (r, k .0, k .1, inl (refl, inl (k .2)))) (λ k. (r, k .0, k .1, inl (refl, inr (k .2)))) g)
-          (λ g. ⊎-elim (λ k. (k .0, k .1, k .2, inr (inl (k .3)))) (λ k. (k .0, k .1, k .2, inr (inr (k .3)))) g) h,
+            (λ g. ⊎-elim (λ k. (r, k .0, k .1, inl (refl, inl (k .2)))) (λ k. (r, k .0, k .1, inl (refl, inr (k .2)))) g)
+            (λ g. ⊎-elim (λ k. (k .0, k .1, k .2, inr (inl (k .3)))) (λ k. (k .0, k .1, k .2, inr (inr (k .3)))) g) h,
         λ h. ⊎-elim
-          (λ g. let e : v .owner ≡ special r = h .1 ∙ ap special (g .0) in ⊎-elim (λ k. inl (inl (e, h .2, k))) (λ k. inl (inr (e, h .2, k))) (g .1))
-          (λ g. ⊎-elim (λ k. inr (inl (h .0, h .1, h .2, k))) (λ k. inr (inr (h .0, h .1, h .2, k))) g) (h .3),
+            (λ g. let e : v .owner ≡ special r = h .1 ∙ ap special (g .0) in ⊎-elim (λ k. inl (inl (e, h .2, k)))
+            (λ k. inl (inr (e, h .2, k))) (g .1))
+            (λ g. ⊎-elim (λ k. inr (inl (h .0, h .1, h .2, k))) (λ k. inr (inr (h .0, h .1, h .2, k))) g) (h .3),
       ))
       (size-sum own inner (walks w a + walks w b) (owned w a + owned w b)
       (λ v g h. let e : v .owner ≡ special r = ⊎-elim (λ k. k .0) (λ k. k .0) g in ⊎-elim
-        (λ k. let f : r ≡ k .0 = one-node e (k .1) in omega (arith, f, visits-range a x v k))
-        (λ k. let f : r ≡ k .0 = one-node e (k .1) in omega (arith, f, visits-range b (x + size a) v k)) h)
+      (λ k. let f : r ≡ k .0 = one-node e (k .1) in omega (arith, f, visits-range a x v k))
+      (λ k. let f : r ≡ k .0 = one-node e (k .1) in omega (arith, f, visits-range b (x + size a) v k)) h)
       (both-size a b x (special r)) (beside a b x (specials-size a x) (specials-size b (x + size a))))
   specials-size (complement o a) x =
       let r = x + below (complement o a) in
@@ -122,7 +131,8 @@ module _ (w : Word) where
   abbrev Walks : Tree → Visit → Type 0
   Walks t v = (v .start ≤ length w) × WalkOf w t (v .owner) (v .start) (v .state) (v .used)
 
-  by-owner : (t : Tree) (v : Visit) (u : Owner) → v .owner ≡ u → (v .start ≤ length w) × WalkOf w t u (v .start) (v .state) (v .used) → All w whole (Reached w t 0) v ⊎ Specials t 0 v
+  by-owner : (t : Tree) (v : Visit) (u : Owner) → v .owner ≡ u → (v .start ≤ length w) × WalkOf w t u (v .start) (v .state) (v .used)
+      → All w whole (Reached w t 0) v ⊎ Specials t 0 v
   by-owner t v whole e h = inl (e, h .0, h .1)
   by-owner t v (special y) e h = inr (y, e, h .0, h .1)
 
@@ -132,8 +142,8 @@ module _ (w : Word) where
       size-same (λ v. All w whole (Reached w t 0) v ⊎ Specials t 0 v) (Walks t) (walks w t + owned w t)
       (λ v. (
         λ h. ⊎-elim
-          (λ g. (g .1, subst (λ (u : Owner). WalkOf w t u (v .start) (v .state) (v .used)) (sym (g .0)) (g .2)))
-          (λ g. (g .2, subst (λ (u : Owner). WalkOf w t u (v .start) (v .state) (v .used)) (sym (g .1)) (g .3))) h,
+            (λ g. (g .1, subst (λ (u : Owner). WalkOf w t u (v .start) (v .state) (v .used)) (sym (g .0)) (g .2)))
+            (λ g. (g .2, subst (λ (u : Owner). WalkOf w t u (v .start) (v .state) (v .used)) (sym (g .1)) (g .3))) h,
         λ h. by-owner t v (v .owner) refl h,
       ))
       (size-sum (All w whole (Reached w t 0)) (Specials t 0) (walks w t) (owned w t)
