@@ -11,18 +11,21 @@ pub data Level : Type 0 where
   Alt Conj Seq Pre Post Atom : Level
 
 -- `Reads l o u t`: the text u, whose first byte has the offset o, is read at the level l as the tree t.
--- 01: "The three that take two sides group from the left. Several `*` and several `!` may follow each other"; "parentheses are none [of the nodes]";
--- "concatenation has the offset at which its right side begins, an opening parenthesis included".
+-- 01: "The three that take two sides group from the left. Several `*` and several `!` may follow each other";
+-- "parentheses are none" (no nodes); "concatenation has the offset at which its right side begins, an opening parenthesis included".
 pub data Reads : Level → ℕ → List ℕ → Tree → Type 0 where
   -- Alt = Conj, Alt "|" Conj
   alt-conj : {o : ℕ} {u : List ℕ} {t : Tree} → Reads Conj o u t → Reads Alt o u t
-  alt-bar : {o : ℕ} {u v : List ℕ} {t r : Tree} → Reads Alt o u t → Reads Conj (o + length u + 1) v r → Reads Alt o (u ++ 124 ∷ v) (union (o + length u) t r)
+  alt-bar : {o : ℕ} {u v : List ℕ} {t r : Tree} → Reads Alt o u t → Reads Conj (o + length u + 1) v r
+      → Reads Alt o (u ++ 124 ∷ v) (union (o + length u) t r)
   -- Conj = Seq, Conj "&" Seq
   conj-seq : {o : ℕ} {u : List ℕ} {t : Tree} → Reads Seq o u t → Reads Conj o u t
-  conj-amp : {o : ℕ} {u v : List ℕ} {t r : Tree} → Reads Conj o u t → Reads Seq (o + length u + 1) v r → Reads Conj o (u ++ 38 ∷ v) (intersection (o + length u) t r)
+  conj-amp : {o : ℕ} {u v : List ℕ} {t r : Tree} → Reads Conj o u t → Reads Seq (o + length u + 1) v r
+      → Reads Conj o (u ++ 38 ∷ v) (intersection (o + length u) t r)
   -- Seq = Pre, Seq Pre
   seq-pre : {o : ℕ} {u : List ℕ} {t : Tree} → Reads Pre o u t → Reads Seq o u t
-  seq-more : {o : ℕ} {u v : List ℕ} {t r : Tree} → Reads Seq o u t → Reads Pre (o + length u) v r → Reads Seq o (u ++ v) (concatenation (o + length u) t r)
+  seq-more : {o : ℕ} {u v : List ℕ} {t r : Tree} → Reads Seq o u t → Reads Pre (o + length u) v r
+      → Reads Seq o (u ++ v) (concatenation (o + length u) t r)
   -- Pre = Post, "!" Pre
   pre-post : {o : ℕ} {u : List ℕ} {t : Tree} → Reads Post o u t → Reads Pre o u t
   pre-bang : {o : ℕ} {u : List ℕ} {t : Tree} → Reads Pre (o + 1) u t → Reads Pre o (33 ∷ u) (complement o t)

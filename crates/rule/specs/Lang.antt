@@ -6,6 +6,10 @@ use Prim.Native.Nat.{ℕ, zero, suc}
 use Rattle.event.specs.Event.{Word, Events}
 use Rattle.rule.specs.Tree.{Tree, empty, epsilon, letter, union, intersection, concatenation, complement, star}
 
+-- the event x is the letter c: what a letter's node takes
+abbrev pub Fits : ℕ → ℕ → Type 0
+Fits c x = x ≡ c
+
 -- L(r1 · r2) = { w1 · w2 : w1 ∈ L(r1) and w2 ∈ L(r2) }
 abbrev pub Concat : (Word → Type 0) → (Word → Type 0) → Word → Type 0
 Concat L M w = (u : Word) × (v : Word) × (w ≡ u ++ v) × L u × M v

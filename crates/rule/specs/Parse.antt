@@ -1,4 +1,5 @@
--- The recursive reader as a function on lists, over whatever `push` makes of a node. That it reads as the grammar does is proved in proofs/Parses. Assumes nothing.
+-- The recursive reader as a function on lists, over whatever `push` makes of a node.
+-- That it reads as the grammar does is `parse-whole` in proofs/Parses. Assumes nothing.
 use Prim.Native.Nat.{ℕ, zero, suc, _+_, _-_, _*_}
 use mathlib.Core.List.{List}
 use mathlib.Core.Bool.{cond}

@@ -1,4 +1,5 @@
--- The scan of a rule text: one byte after another. That it finds exactly the sentences is `scan-right` in proofs/ScanDecides. Assumes nothing.
+-- The scan of a rule text: one byte after another.
+-- That it finds exactly the sentences is `scan-right` in proofs/ScanDecides. Assumes nothing.
 use Prim.Native.Nat.{ℕ, _+_, _-_}
 use mathlib.Core.List.{List, [], _∷_}
 use mathlib.Core.Bool.{Bool, true, false, cond}

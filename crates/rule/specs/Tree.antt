@@ -6,7 +6,8 @@ use Rattle.rule.specs.declared.Kind.{Kind}
 use Rattle.rule.specs.declared.Kind.the-variants.{Empty, Epsilon, Letter, Union, Intersection, Concatenation, Complement, Star}
 use Rattle.rule.specs.declared.Node.{Node}
 
--- 01: "The reading is a tree. Each letter, `0`, `1` and operator (concatenation too) is a node". The first number of a node is its byte offset.
+-- 01: "The reading is a tree. Each letter, `0`, `1` and operator (concatenation too) is a node".
+-- The first number of a node is its byte offset.
 pub data Tree : Type 0 where
   empty : ℕ → Tree  -- `0`, no word
   epsilon : ℕ → Tree  -- `1`, the empty word

@@ -1,4 +1,5 @@
--- The one reading of a sentence, computed: `parse` with a stack of trees. That it is the grammar's is `tree-is` in proofs/OneReading. Assumes nothing.
+-- The one reading of a sentence, computed: `parse` with a stack of trees.
+-- That it is the grammar's is `tree-is` in proofs/OneReading. Assumes nothing.
 use Prim.Native.Nat.{ℕ}
 use mathlib.Core.List.{List, [], _∷_}
 use Rattle.rule.specs.Tree.{Tree, empty, epsilon, letter, union, intersection, concatenation, complement, star}

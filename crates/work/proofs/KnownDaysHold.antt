@@ -1,4 +1,5 @@
--- The known days hold: each is worked out anew by the computed forms, which the general theorems tie to the meanings, and comes out as the table has it. Assumes nothing.
+-- The known days hold: each is worked out anew by the computed forms, which the general theorems tie to the meanings,
+-- and comes out as the table has it. Assumes nothing.
 use mathlib.Core.Path.{_≡_, refl, subst}
 use mathlib.Core.List.{List, [], _∷_, map}
 use mathlib.Core.Option.{Option, none, some}

@@ -1,4 +1,5 @@
--- The walk over a tree reaches exactly the places of At; and the root's exit at j, from i, exactly where span (i, j) obeys. Assumes nothing.
+-- The walk over a tree reaches exactly the places of At;
+-- and the root's exit at j, from i, exactly where span (i, j) obeys. Assumes nothing.
 use mathlib.Core.Path.{_≡_, subst}
 use mathlib.Core.Logic.{_↔_}
 use Prim.Native.Nat.{ℕ, _≤_}

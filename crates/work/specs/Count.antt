@@ -1,4 +1,5 @@
--- The full work count, computed by recursion on the tree. That it is the size of the collection is `collection-size` in proofs/WorkSize. Assumes nothing.
+-- The full work count, computed by recursion on the tree.
+-- That it is the size of the collection is `collection-size` in proofs/WorkSize. Assumes nothing.
 use mathlib.Core.Bool.{Bool, _&&_, _||_}
 use Prim.Native.Nat.{ℕ, zero, suc, _+_}
 use lib.Dec.{eqb}

@@ -1,4 +1,5 @@
--- The known days C1 to C12 of document 01, as one table with one claim, `KnownDays`. Its proof is `known-days` in proofs/KnownDaysHold. Assumes nothing.
+-- The known days C1 to C12 of document 01, as one table with one claim, `KnownDays`.
+-- Its proof is `known-days` in proofs/KnownDaysHold. Assumes nothing.
 use mathlib.Core.Logic.{_↔_}
 use mathlib.Core.List.{List, [], _∷_, List·Memᴰ}
 use mathlib.Core.Option.{Option, none, some}

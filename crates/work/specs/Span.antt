@@ -7,7 +7,8 @@ use Rattle.rule.specs.Tree.{Tree}
 use Rattle.rule.specs.Lang.{Lang}
 
 -- 01, The span table: "Span (i, j), with 0 ≤ i ≤ j ≤ n, is the events after the first i up to and including the j-th"
--- 01, The walk: "A span obeys a rule, or the part of it that a node heads, if its events form a word in the language that section 2.1 gives that rule or part"
+-- 01, The walk: "A span obeys a rule, or the part of it that a node heads, if its events form a word in the language
+-- that section 2.1 gives that rule or part; what a table holds never decides it."
 pub record Obeys (w : Word) (t : Tree) (i j : ℕ) : Type 0 where
   pub order : i ≤ j
   pub fits : j ≤ length w

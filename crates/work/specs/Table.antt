@@ -16,7 +16,8 @@ use Rattle.work.specs.Span.{Obeys}
 unfoldable pub obeys : Word → Tree → ℕ → ℕ → Bool
 obeys w t i j = leb i j && leb j (length w) && accepts t (slice i j w)
 
--- 01: "A block has n + 1 rows of four numbers. In row i, span (i, j) is the bit worth 2 to the power (j modulo 64) of number (j divided by 64, rounded down)."
+-- 01: "A block has n + 1 rows of four numbers. In row i, span (i, j) is the bit worth 2 to the power (j modulo 64)
+-- of number (j divided by 64, rounded down)."
 -- Counted from the block's first number, 64 bits to a number, that is bit 256 i + j; and bit p is that of span (p / 256, p % 256).
 abbrev pub position : ℕ → ℕ → ℕ
 position i j = 256 * i + j
@@ -30,10 +31,12 @@ endOf p = p % 256
 abbrev pub blockLength : ℕ → ℕ
 blockLength n = (n + 1) * 4
 
--- 01: "The bit is 1 exactly if the span obeys; all other bits are 0." So says `HoldsBlock` of a run, from its number `first` on, for the part t.
+-- 01: "The bit is 1 exactly if the span obeys; all other bits are 0."
+-- So says `HoldsBlock` of a run, from its number `first` on, for the part t.
 pub record HoldsBlock (w : Word) (t : Tree) (run : List ℕ) (first : ℕ) : Type 0 where
   pub spans : (i j : ℕ) → Obeys w t i j → bitAt run (64 * first + position i j) ≡ true
-  pub others : (p : ℕ) → p < 64 * blockLength (length w) → bitAt run (64 * first + p) ≡ true → (i : ℕ) × (j : ℕ) × (p ≡ position i j) × Obeys w t i j
+  pub others : (p : ℕ) → p < 64 * blockLength (length w) → bitAt run (64 * first + p) ≡ true
+      → (i : ℕ) × (j : ℕ) × (p ≡ position i j) × Obeys w t i j
 
 -- the block of the part t, as numbers
 unfoldable pub block : Word → Tree → List ℕ

@@ -1,9 +1,9 @@
 -- The walk that is counted, as document 01 words it. Assumes nothing.
-use mathlib.Core.Path.{_≡_}
 use Prim.Native.Nat.{ℕ, suc, _+_, _*_, _≤_, _<_}
 use lib.ListN.{length, getD}
 use Rattle.event.specs.Event.{Word}
 use Rattle.rule.specs.Tree.{Tree, epsilon, letter, union, intersection, concatenation, complement, star, below, size}
+use Rattle.rule.specs.Lang.{Fits}
 use Rattle.work.specs.Span.{Obeys}
 
 -- "two states for every node, an entry and an exit": 2y and 2y + 1 for the node with the y-th record.
@@ -46,10 +46,13 @@ pub data NodeMove (w : Word) : Tree → ℕ → ℕ → ℕ → ℕ → ℕ → 
   star-again : {o x j : ℕ} {a : Tree} → NodeMove w (star o a) x (exit a x) j (entry a x) j
   star-out : {o x j : ℕ} {a : Tree} → NodeMove w (star o a) x (exit a x) j (exit (star o a) x) j
   -- "A letter moves entry to exit by using the next event, if that is the letter."
-  letter-use : {o c x j : ℕ} → j < length w → getD w j 0 ≡ c → NodeMove w (letter o c) x (entry (letter o c) x) j (exit (letter o c) x) (suc j)
+  letter-use : {o c x j : ℕ} → j < length w → Fits c (getD w j 0)
+      → NodeMove w (letter o c) x (entry (letter o c) x) j (exit (letter o c) x) (suc j)
   -- "At the entry of a special node at number j it goes to that node's exit at each j' for which the span (j, j') obeys that node's rule."
-  intersection-span : {o x j k : ℕ} {a b : Tree} → Obeys w (intersection o a b) j k → NodeMove w (intersection o a b) x (entry (intersection o a b) x) j (exit (intersection o a b) x) k
-  complement-span : {o x j k : ℕ} {a : Tree} → Obeys w (complement o a) j k → NodeMove w (complement o a) x (entry (complement o a) x) j (exit (complement o a) x) k
+  intersection-span : {o x j k : ℕ} {a b : Tree} → Obeys w (intersection o a b) j k
+      → NodeMove w (intersection o a b) x (entry (intersection o a b) x) j (exit (intersection o a b) x) k
+  complement-span : {o x j k : ℕ} {a : Tree} → Obeys w (complement o a) j k
+      → NodeMove w (complement o a) x (entry (complement o a) x) j (exit (complement o a) x) k
 
 -- a move of the rule t, whose records stand from x on: one that some part of it brings
 pub record RuleMove (w : Word) (t : Tree) (x s j s′ j′ : ℕ) : Type 0 where
@@ -65,8 +68,8 @@ pub data Owner : Type 0 where
 
 -- "The owner of a state is the innermost special node that strictly contains the state's node, or the whole rule where there is none.
 -- A special node's own two states thus belong to what surrounds it."
--- `Owns t u v y`: u owns the two states of the root of v, a part of the rule t whose records stand from y on. That a walk stays with its owner is
--- `reaches-owner` in proofs/StateOwners.
+-- `Owns t u v y`: u owns the two states of the root of v, a part of the rule t whose records stand from y on.
+-- That a walk stays with its owner is `reaches-owner` in proofs/StateOwners.
 pub data Owns (t : Tree) : Owner → Tree → ℕ → Type 0 where
   of-rule : Owns t whole t 0
   of-union-left : {u : Owner} {o x : ℕ} {a b : Tree} → Owns t u (union o a b) x → Owns t u a x
@@ -74,8 +77,10 @@ pub data Owns (t : Tree) : Owner → Tree → ℕ → Type 0 where
   of-concatenation-left : {u : Owner} {o x : ℕ} {a b : Tree} → Owns t u (concatenation o a b) x → Owns t u a x
   of-concatenation-right : {u : Owner} {o x : ℕ} {a b : Tree} → Owns t u (concatenation o a b) x → Owns t u b (x + size a)
   of-star : {u : Owner} {o x : ℕ} {a : Tree} → Owns t u (star o a) x → Owns t u a x
-  of-intersection-left : {u : Owner} {o x : ℕ} {a b : Tree} → Owns t u (intersection o a b) x → Owns t (special (x + below (intersection o a b))) a x
-  of-intersection-right : {u : Owner} {o x : ℕ} {a b : Tree} → Owns t u (intersection o a b) x → Owns t (special (x + below (intersection o a b))) b (x + size a)
+  of-intersection-left : {u : Owner} {o x : ℕ} {a b : Tree} → Owns t u (intersection o a b) x
+      → Owns t (special (x + below (intersection o a b))) a x
+  of-intersection-right : {u : Owner} {o x : ℕ} {a b : Tree} → Owns t u (intersection o a b) x
+      → Owns t (special (x + below (intersection o a b))) b (x + size a)
   of-complement : {u : Owner} {o x : ℕ} {a : Tree} → Owns t u (complement o a) x → Owns t (special (x + below (complement o a))) a x
 
 -- "For each owner and each start i from 0 to n, the walk begins at number i: at the entry of each side for `&`, at the inner entry for `!`,
@@ -83,7 +88,8 @@ pub data Owns (t : Tree) : Owner → Tree → ℕ → Type 0 where
 pub data Begins (t : Tree) : Owner → ℕ → Type 0 where
   at-rule : Begins t whole (entry t 0)
   at-left : {o x : ℕ} {a b : Tree} → Part t 0 (intersection o a b) x → Begins t (special (x + below (intersection o a b))) (entry a x)
-  at-right : {o x : ℕ} {a b : Tree} → Part t 0 (intersection o a b) x → Begins t (special (x + below (intersection o a b))) (entry b (x + size a))
+  at-right : {o x : ℕ} {a b : Tree} → Part t 0 (intersection o a b) x
+      → Begins t (special (x + below (intersection o a b))) (entry b (x + size a))
   at-inner : {o x : ℕ} {a : Tree} → Part t 0 (complement o a) x → Begins t (special (x + below (complement o a))) (entry a x)
 
 -- "A place is reached, for its owner and a start, if that walk begins there or comes there by finitely many of these steps."
