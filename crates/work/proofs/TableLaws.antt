@@ -43,10 +43,9 @@ pub parts-length : (t : Tree) → length (specialParts t) ≡ specials t
 parts-length (empty o) = refl
 parts-length (epsilon o) = refl
 parts-length (letter o c) = refl
-parts-length (union o a b) = length-append (specialParts a) (specialParts b) ∙ omega (arith, parts-length a, parts-length b)
-parts-length (intersection o a b) = length-append (specialParts a) (intersection o a b ∷ specialParts b) ∙ omega
-    (arith, parts-length a, parts-length b)
-parts-length (concatenation o a b) = length-append (specialParts a) (specialParts b) ∙ omega (arith, parts-length a, parts-length b)
+parts-length (union o a b) = simp length-append (omega (arith, parts-length a, parts-length b))
+parts-length (intersection o a b) = simp length-append (omega (arith, parts-length a, parts-length b))
+parts-length (concatenation o a b) = simp length-append (omega (arith, parts-length a, parts-length b))
 parts-length (complement o a) = ap suc (parts-length a)
 parts-length (star o a) = parts-length a
 

@@ -1,0 +1,184 @@
+//! Random trees, sentences and words, for the random cases and the tests.
+
+use crate::random::Random;
+use crate::rule::Kind;
+
+/// The small alphabets of random cases; with few letters more words obey.
+const ALPHABETS: [&[u8]; 4] = [b"ab", b"abc", b"az", b"bmz"];
+
+/// The most that a random sentence may have.
+pub struct Bounds {
+    pub bytes: usize,
+    pub nodes: usize,
+    pub special: usize,
+}
+
+/// One of the small alphabets.
+pub fn alphabet(random: &mut Random) -> &'static [u8] {
+    random.pick(&ALPHABETS)
+}
+
+/// A random word of at most so many letters.
+pub fn word(random: &mut Random, letters: &[u8], most: usize) -> Vec<u8> {
+    let n = random.below(most + 1);
+    (0..n).map(|_| random.pick(letters)).collect()
+}
+
+/// A random sentence within the bounds.
+pub fn sentence(random: &mut Random, letters: &[u8], bounds: &Bounds) -> Vec<u8> {
+    // A text of b bytes has at most b leaves and b - 1 concatenations.
+    let most_nodes = bounds.nodes.min(2 * bounds.bytes - 1);
+    loop {
+        let nodes = 1 + random.below(most_nodes);
+        let special = random.below(bounds.special + 1);
+        let tree = grow_tree(random, letters, nodes, special);
+        let text = write_tree(random, &tree);
+        if text.len() <= bounds.bytes {
+            return text;
+        }
+    }
+}
+
+/// A random tree of so many nodes, each after its sides, with at most so many special ones.
+pub fn grow_tree(random: &mut Random, letters: &[u8], nodes: usize, special: usize) -> Vec<Kind> {
+    let mut grower = Grower {
+        random,
+        letters,
+        special,
+        kinds: Vec::new(),
+    };
+    grower.grow(nodes);
+    grower.kinds
+}
+
+/// A tree that is being grown.
+struct Grower<'a> {
+    random: &'a mut Random,
+    letters: &'a [u8],
+    /// How many special nodes may still be added.
+    special: usize,
+    kinds: Vec<Kind>,
+}
+
+impl Grower<'_> {
+    /// Adds a part of so many nodes; gives the index of its head.
+    fn grow(&mut self, nodes: usize) -> usize {
+        let kind = match nodes {
+            1 => self.leaf(),
+            2 => self.around(1),
+            _ if self.random.one_in(3) => self.around(nodes - 1),
+            _ => self.between(nodes - 1),
+        };
+        self.kinds.push(kind);
+        self.kinds.len() - 1
+    }
+
+    /// A node without sides, mostly a letter.
+    fn leaf(&mut self) -> Kind {
+        match self.random.below(10) {
+            0 => Kind::NoWord,
+            1 => Kind::EmptyWord,
+            _ => Kind::Letter(self.random.pick(self.letters)),
+        }
+    }
+
+    /// A node with one side, after that side's nodes.
+    fn around(&mut self, nodes: usize) -> Kind {
+        let special = self.take_special(2);
+        let inner = self.grow(nodes);
+        if special {
+            Kind::Complement(inner)
+        } else {
+            Kind::Star(inner)
+        }
+    }
+
+    /// A node with two sides, after the nodes of both together.
+    fn between(&mut self, nodes: usize) -> Kind {
+        let special = self.take_special(4);
+        let union = self.random.one_in(2);
+        let left_nodes = 1 + self.random.below(nodes - 1);
+        let left = self.grow(left_nodes);
+        let right = self.grow(nodes - left_nodes);
+        if special {
+            Kind::Intersection(left, right)
+        } else if union {
+            Kind::Union(left, right)
+        } else {
+            Kind::Concatenation(left, right)
+        }
+    }
+
+    /// Whether the next node is special: once in so many times, as long as some may be added.
+    fn take_special(&mut self, times: usize) -> bool {
+        let taken = self.special > 0 && self.random.one_in(times);
+        self.special -= usize::from(taken);
+        taken
+    }
+}
+
+/// Writes a tree as a text that reads back to it, with a few parentheses more than it takes.
+pub fn write_tree(random: &mut Random, kinds: &[Kind]) -> Vec<u8> {
+    let mut writer = Writer {
+        random,
+        kinds,
+        text: Vec::new(),
+    };
+    writer.write(kinds.len() - 1, 0);
+    writer.text
+}
+
+/// A tree that is being written.
+struct Writer<'a> {
+    random: &'a mut Random,
+    kinds: &'a [Kind],
+    text: Vec<u8>,
+}
+
+impl Writer<'_> {
+    /// Writes the part a node heads where nothing looser than a tightness may stand.
+    fn write(&mut self, node: usize, least: usize) {
+        if tightness(self.kinds[node]) < least || self.random.one_in(12) {
+            self.text.push(b'(');
+            self.write(node, 0);
+            self.text.push(b')');
+            return;
+        }
+        match self.kinds[node] {
+            Kind::NoWord => self.text.push(b'0'),
+            Kind::EmptyWord => self.text.push(b'1'),
+            Kind::Letter(letter) => self.text.push(letter),
+            // Grouping from the left: a right side must be tighter than its operator.
+            Kind::Union(left, right) => self.write_sides((left, 0), b"|", (right, 1)),
+            Kind::Intersection(left, right) => self.write_sides((left, 1), b"&", (right, 2)),
+            Kind::Concatenation(left, right) => self.write_sides((left, 2), b"", (right, 3)),
+            Kind::Complement(inner) => {
+                self.text.push(b'!');
+                self.write(inner, 3);
+            }
+            Kind::Star(inner) => {
+                self.write(inner, 4);
+                self.text.push(b'*');
+            }
+        }
+    }
+
+    /// Writes two sides, each with its least tightness, and the operator between them.
+    fn write_sides(&mut self, left: (usize, usize), sign: &[u8], right: (usize, usize)) {
+        self.write(left.0, left.1);
+        self.text.extend_from_slice(sign);
+        self.write(right.0, right.1);
+    }
+}
+
+/// How tightly a node binds, from the loosest operator to a leaf.
+fn tightness(kind: Kind) -> usize {
+    match kind {
+        Kind::Union(..) => 0,
+        Kind::Intersection(..) => 1,
+        Kind::Concatenation(..) => 2,
+        Kind::Complement(_) => 3,
+        Kind::Star(_) => 4,
+        Kind::NoWord | Kind::EmptyWord | Kind::Letter(_) => 5,
+    }
+}

@@ -1,0 +1,36 @@
+//! The alphabet and the bounds of document 01, each in one place so that a change is one line.
+
+/// Whether a byte is an event, which is also what may stand as a letter in a rule.
+pub fn is_event(byte: u8) -> bool {
+    byte.is_ascii_lowercase()
+}
+
+/// The longest rule text, in bytes.
+pub const MAX_RULE_BYTES: usize = 255;
+
+/// The most nodes a rule may have (m).
+pub const MAX_NODES: usize = 64;
+
+/// The most special nodes a rule may have (k).
+pub const MAX_SPECIAL: usize = 7;
+
+/// The longest word, in events (n).
+pub const MAX_WORD: usize = 255;
+
+/// The longest day file, in bytes.
+pub const MAX_DAY_BYTES: usize = 2_550;
+
+/// The most lines of a day file; each one is an event of the word.
+pub const MAX_DAY_LINES: usize = MAX_WORD;
+
+/// The most digits of a second.
+pub const MAX_SECOND_DIGITS: usize = 5;
+
+/// The last second of a day.
+pub const LAST_SECOND: u32 = 86_399;
+
+/// How many bytes of its input the program reads.
+pub const MAX_JOB_BYTES: usize = 2_809;
+
+/// The highest limit the program gives to a judge call.
+pub const MAX_LIMIT: u64 = 4_210_688;

@@ -1,0 +1,232 @@
+//! The reader of rule texts: refusals 1 to 6, and the tree with its byte offsets.
+//!
+//! A sentence is read by splitting it at its loosest operator, over and over;
+//! whether a text is a sentence at all is settled before, by one pass over its bytes.
+
+use std::ops::Range;
+
+use crate::limits::{is_event, MAX_NODES, MAX_RULE_BYTES, MAX_SPECIAL};
+use crate::refusal::{Reason, Refusal};
+
+/// What a node is; each side is given by its index in the list of nodes.
+#[derive(Clone, Copy, Debug, PartialEq, Eq)]
+pub enum Kind {
+    NoWord,
+    EmptyWord,
+    Letter(u8),
+    Union(usize, usize),
+    Intersection(usize, usize),
+    Concatenation(usize, usize),
+    Complement(usize),
+    Star(usize),
+}
+
+impl Kind {
+    /// Whether the node is one of the special ones.
+    pub fn is_special(self) -> bool {
+        matches!(self, Kind::Intersection(..) | Kind::Complement(_))
+    }
+}
+
+/// One node: its kind and its byte offset in the rule text.
+#[derive(Clone, Copy, Debug, PartialEq, Eq)]
+pub struct Node {
+    pub offset: usize,
+    pub kind: Kind,
+}
+
+/// A rule that was read: its nodes, each after its left and its right side, so the head is last.
+#[derive(Clone, Debug, PartialEq, Eq)]
+pub struct Rule {
+    pub nodes: Vec<Node>,
+}
+
+impl Rule {
+    /// The number of nodes.
+    pub fn m(&self) -> usize {
+        self.nodes.len()
+    }
+
+    /// The number of special nodes.
+    pub fn k(&self) -> usize {
+        self.special_nodes().count()
+    }
+
+    /// The index of the node that heads the whole rule.
+    pub fn head(&self) -> usize {
+        self.nodes.len() - 1
+    }
+
+    /// The indices of the special nodes, in the order of the list of nodes.
+    pub fn special_nodes(&self) -> impl Iterator<Item = usize> + '_ {
+        (0..self.nodes.len()).filter(|&node| self.nodes[node].kind.is_special())
+    }
+}
+
+/// Reads a rule text, or says why it is refused.
+pub fn read(text: &[u8]) -> Result<Rule, Refusal> {
+    if text.is_empty() {
+        return Err(Refusal::without_place(Reason::RuleEmpty));
+    }
+    if text.len() > MAX_RULE_BYTES {
+        return Err(Refusal::without_place(Reason::RuleTooLong));
+    }
+    if let Some(offset) = text.iter().position(|&byte| !is_listed(byte)) {
+        return Err(Refusal::at(Reason::RuleByte, offset));
+    }
+    check_sentence(text).map_err(|length| Refusal::at(Reason::NotASentence, length))?;
+    let rule = split_sentence(text);
+    if rule.m() > MAX_NODES {
+        return Err(Refusal::without_place(Reason::TooManyNodes));
+    }
+    if rule.k() > MAX_SPECIAL {
+        return Err(Refusal::without_place(Reason::TooManySpecialNodes));
+    }
+    Ok(rule)
+}
+
+/// Whether a byte may stand in a rule text.
+fn is_listed(byte: u8) -> bool {
+    is_leaf(byte) || b"|&!*()".contains(&byte)
+}
+
+/// Whether a byte is a node without sides.
+fn is_leaf(byte: u8) -> bool {
+    is_event(byte) || byte == b'0' || byte == b'1'
+}
+
+/// Checks that a text is a sentence; if not, the error is the longest beginning's length.
+///
+/// Every beginning that passes can be completed: by a letter if an operand is due,
+/// and then by a closing parenthesis for each one still open.
+fn check_sentence(text: &[u8]) -> Result<(), usize> {
+    let mut open = 0;
+    let mut operand_due = true;
+    for (offset, &byte) in text.iter().enumerate() {
+        match byte {
+            b'(' => {
+                open += 1;
+                operand_due = true;
+            }
+            b'!' => operand_due = true,
+            b'|' | b'&' if !operand_due => operand_due = true,
+            b'*' if !operand_due => {}
+            b')' if !operand_due && open > 0 => open -= 1,
+            _ if is_leaf(byte) => operand_due = false,
+            _ => return Err(offset),
+        }
+    }
+    if operand_due || open > 0 {
+        return Err(text.len());
+    }
+    Ok(())
+}
+
+/// Reads a text that is known to be a sentence.
+fn split_sentence(text: &[u8]) -> Rule {
+    let mut splitter = Splitter {
+        text,
+        nodes: Vec::new(),
+    };
+    splitter.read_part(0..text.len());
+    Rule {
+        nodes: splitter.nodes,
+    }
+}
+
+/// The text that is split and the nodes read so far.
+struct Splitter<'a> {
+    text: &'a [u8],
+    nodes: Vec<Node>,
+}
+
+impl Splitter<'_> {
+    /// Reads a part of the text; gives the index of the node that heads it.
+    fn read_part(&mut self, part: Range<usize>) -> usize {
+        let Range { start, end } = part;
+        let outside = self.outside_parentheses(start, end);
+        let outside = || outside.iter().copied();
+        // Grouping from the left makes the last of the loosest operators the head.
+        let last = |sign: u8| outside().rfind(|&at| self.text[at] == sign);
+        let last_side = || outside().rfind(|&at| self.begins_side(start, at));
+        if let Some(at) = last(b'|') {
+            self.read_two_sides(start..at, at + 1..end, at, Kind::Union)
+        } else if let Some(at) = last(b'&') {
+            self.read_two_sides(start..at, at + 1..end, at, Kind::Intersection)
+        } else if let Some(at) = last_side() {
+            self.read_two_sides(start..at, at..end, at, Kind::Concatenation)
+        } else if self.text[start] == b'!' {
+            self.read_one_side(start + 1..end, start, Kind::Complement)
+        } else if self.text[end - 1] == b'*' {
+            self.read_one_side(start..end - 1, end - 1, Kind::Star)
+        } else if self.text[start] == b'(' {
+            self.read_part(start + 1..end - 1)
+        } else {
+            self.push(start, leaf_kind(self.text[start]))
+        }
+    }
+
+    /// The offsets that lie in no parentheses of a part; an opening one itself lies outside.
+    fn outside_parentheses(&self, start: usize, end: usize) -> Vec<usize> {
+        let mut outside = Vec::new();
+        let mut open = 0;
+        for at in start..end {
+            if self.text[at] == b')' {
+                open -= 1;
+            } else if open == 0 {
+                outside.push(at);
+            }
+            if self.text[at] == b'(' {
+                open += 1;
+            }
+        }
+        outside
+    }
+
+    /// Whether a concatenation's right side begins at an offset, in a part with nothing looser.
+    fn begins_side(&self, start: usize, at: usize) -> bool {
+        let byte = self.text[at];
+        let begins_operand = is_leaf(byte) || byte == b'(' || byte == b'!';
+        // What follows a complement sign is that sign's own side.
+        at > start && begins_operand && self.text[at - 1] != b'!'
+    }
+
+    /// Reads both sides and then adds the node that joins them.
+    fn read_two_sides(
+        &mut self,
+        left: Range<usize>,
+        right: Range<usize>,
+        offset: usize,
+        kind: fn(usize, usize) -> Kind,
+    ) -> usize {
+        let left = self.read_part(left);
+        let right = self.read_part(right);
+        self.push(offset, kind(left, right))
+    }
+
+    /// Reads the inner part and then adds the node around it.
+    fn read_one_side(
+        &mut self,
+        inner: Range<usize>,
+        offset: usize,
+        kind: fn(usize) -> Kind,
+    ) -> usize {
+        let inner = self.read_part(inner);
+        self.push(offset, kind(inner))
+    }
+
+    /// Adds a node after its sides; gives its index.
+    fn push(&mut self, offset: usize, kind: Kind) -> usize {
+        self.nodes.push(Node { offset, kind });
+        self.nodes.len() - 1
+    }
+}
+
+/// The kind of a node without sides.
+fn leaf_kind(byte: u8) -> Kind {
+    match byte {
+        b'0' => Kind::NoWord,
+        b'1' => Kind::EmptyWord,
+        letter => Kind::Letter(letter),
+    }
+}
