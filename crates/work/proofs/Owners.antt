@@ -90,8 +90,8 @@ module _ (w : Word) where
     pub reached-range : (t : Tree) (x s j : ℕ) → Reached w t x i s j → Within x (x + size t) s
     reached-range t x s j r = at-range w t x (λ k. k ≡ i) s j (reached-at w l r)
 
-    -- 01: "A special owner's own exit is not among its places": all its places lie below its node
-    pub owned-below : (t : Tree) (x y s j : ℕ) → Owned w t x y i s j → Within x (x + below t) s × (s < 2 * y)
+    -- a special owner's states lie below its node, and below the root
+    owned-below : (t : Tree) (x y s j : ℕ) → Owned w t x y i s j → Within x (x + below t) s × (s < 2 * y)
     owned-below (empty o) x y s j h = absurd h
     owned-below (epsilon o) x y s j h = absurd h
     owned-below (letter o c) x y s j h = absurd h
@@ -221,6 +221,18 @@ module _ (w : Word) where
     pub reaches-number : {t : Tree} {u : Owner} {s j : ℕ} → Reaches w t u i s j → (i ≤ j) × (j ≤ length w)
     reaches-number (begin b) = omega arith
     reaches-number (onward r m) = let h = reaches-number r in let k = node-number w (m .move) (h .1) in omega arith
+
+    -- 01: "A special owner's own exit is not among its places": all its states come before its node's own two
+    pub reaches-below : {t : Tree} {y s j : ℕ} → Reaches w t (special y) i s j → s < 2 * y
+    reaches-below {t} {y} {s} {j} r = owned-below t 0 y s j (reaches-walk r) .1
+
+    -- every state reached is one of the rule's 2 m
+    walk-range : (t : Tree) (u : Owner) (s j : ℕ) → WalkOf w t u i s j → s < 2 * size t
+    walk-range t whole s j h = omega (arith, reached-range t 0 s j h)
+    walk-range t (special y) s j h = omega (arith, owned-below t 0 y s j h .0)
+
+    pub reaches-state : {t : Tree} {u : Owner} {s j : ℕ} → Reaches w t u i s j → s < 2 * size t
+    reaches-state {t} {u} {s} {j} r = walk-range t u s j (reaches-walk r)
 
     -- from start i the exit of the rule is reached at j exactly if span (i, j) obeys
     pub reaches-exit : (t : Tree) (j : ℕ) → Reaches w t whole i (exit t 0) j ↔ Obeys w t i j
