@@ -10,10 +10,10 @@ use Rattle.rule.specs.Parse.{alt, measure}
 use Rattle.rule.specs.TreeOf.{stacked, top, treeOf}
 use Rattle.rule.specs.declared.Kind.{Kind}
 use Rattle.rule.specs.declared.Kind.the-variants.{Union, Intersection, Concatenation, Complement, Star}
-use Rattle.rule.specs.Scan.{scanned, finds, isSentence}
+use Rattle.rule.specs.Scan.{scanned, Means, finds, isSentence}
 use Rattle.rule.specs.declared.ScanResult.{ScanResult}
 use Rattle.rule.specs.declared.ScanResult.the-variants.{Sentence, Broken}
-use Rattle.rule.proofs.ScanDecides.{Right, scan-right}
+use Rattle.rule.proofs.ScanDecides.{scan-right}
 use Rattle.rule.proofs.Parses.{pushes, two, one, parse-whole}
 
 pair : (t r : Tree) (k : Kind) (o : ℕ) (w : Tree) (st : List Tree) → stacked (r ∷ t ∷ st) o k ≡ w ∷ st → pushes stacked st
@@ -44,7 +44,7 @@ tree-is {s} {t} r = ap (λ (x : List Tree × ℕ). top (x .0)) (parse-whole stac
 pub one-reading : {s : List ℕ} {t r : Tree} → Reads Alt 0 s t → Reads Alt 0 s r → t ≡ r
 one-reading p q = sym (tree-is p) ∙ tree-is q
 
-found-reads : (s : List ℕ) (f : ScanResult) → Right s f → T (finds f) → Reads Alt 0 s (treeOf s)
+found-reads : (s : List ℕ) (f : ScanResult) → Means s f → T (finds f) → Reads Alt 0 s (treeOf s)
 found-reads s (Sentence m k) x h = subst (Reads Alt 0 s) (sym (tree-is (x .reads))) (x .reads)
 found-reads s (Broken i) x h = absurd h
 

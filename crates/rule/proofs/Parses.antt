@@ -1,4 +1,5 @@
 -- `parse` reads each text of the grammar as its tree: it pushes the tree's records, in order, and stops at the text's end.
+-- Assumes nothing.
 use Prim.Native.Nat.{ℕ, zero, suc, _+_, _-_, _≤_, _<_}
 use native.Mathlib.Omega.{arith}
 use mathlib.Core.Path.{_≡_, refl, sym, ap, ap₂, subst₂, _∙_}

@@ -1,4 +1,4 @@
--- The scan accepts each sentence, and counts its nodes.
+-- The scan finds each sentence, and counts its nodes. Assumes nothing.
 use Prim.Native.Nat.{ℕ, _+_, _-_}
 use native.Mathlib.Omega.{arith}
 use mathlib.Core.Path.{_≡_, refl, sym, ap, ap₂, _∙_}
@@ -53,41 +53,41 @@ letter-step s b i d m k h = ap (onward (scanFrom s) i) (letter-move b d m k h)
 between : (c : ℕ) (u v x : List ℕ) (i : ℕ) → i + length u + 1 + length v ≡ i + length (u ++ c ∷ v)
 between c u v x i = omega (arith, length-append u (c ∷ v))
 
-pub accepts : {l : Level} {o : ℕ} {u : List ℕ} {t : Tree} → Reads l o u t → (x : List ℕ) (i d m k : ℕ) → from
+pub scan-reads : {l : Level} {o : ℕ} {u : List ℕ} {t : Tree} → Reads l o u t → (x : List ℕ) (i d m k : ℕ) → from
     (u ++ x) i d false m k ≡ from x (i + length u) d true (m + size t) (k + specials t)
 unfolding scanFrom
-accepts (alt-conj r) x i d m k = accepts r x i d m k
-accepts (alt-bar {u = u} {v = v} {t = t} r q) x i d m k =
+scan-reads (alt-conj r) x i d m k = scan-reads r x i d m k
+scan-reads (alt-bar {u = u} {v = v} {t = t} r q) x i d m k =
     ap (λ (s : List ℕ). from s i d false m k) (append-assoc u (124 ∷ v) x)
-    ∙ accepts r (124 ∷ v ++ x) i d m k
-    ∙ accepts q x (i + length u + 1) d (m + size t + 1) (k + specials t)
+    ∙ scan-reads r (124 ∷ v ++ x) i d m k
+    ∙ scan-reads q x (i + length u + 1) d (m + size t + 1) (k + specials t)
     ∙ meet x d true (between 124 u v x i) (omega arith) (omega arith)
-accepts (conj-seq r) x i d m k = accepts r x i d m k
-accepts (conj-amp {u = u} {v = v} {t = t} r q) x i d m k =
+scan-reads (conj-seq r) x i d m k = scan-reads r x i d m k
+scan-reads (conj-amp {u = u} {v = v} {t = t} r q) x i d m k =
     ap (λ (s : List ℕ). from s i d false m k) (append-assoc u (38 ∷ v) x)
-    ∙ accepts r (38 ∷ v ++ x) i d m k
-    ∙ accepts q x (i + length u + 1) d (m + size t + 1) (k + specials t + 1)
+    ∙ scan-reads r (38 ∷ v ++ x) i d m k
+    ∙ scan-reads q x (i + length u + 1) d (m + size t + 1) (k + specials t + 1)
     ∙ meet x d true (between 38 u v x i) (omega arith) (omega arith)
-accepts (seq-pre r) x i d m k = accepts r x i d m k
-accepts (seq-more {u = u} {v = v} {t = t} r q) x i d m k =
+scan-reads (seq-pre r) x i d m k = scan-reads r x i d m k
+scan-reads (seq-more {u = u} {v = v} {t = t} r q) x i d m k =
     ap (λ (s : List ℕ). from s i d false m k) (append-assoc u v x)
-    ∙ accepts r (v ++ x) i d m k
+    ∙ scan-reads r (v ++ x) i d m k
     ∙ join (v ++ x) (i + length u) d (m + size t) (k + specials t) (begins q x)
-    ∙ accepts q x (i + length u) d (m + size t + 1) (k + specials t)
+    ∙ scan-reads q x (i + length u) d (m + size t + 1) (k + specials t)
     ∙ meet x d true (omega (arith, length-append u v)) (omega arith) (omega arith)
-accepts (pre-post r) x i d m k = accepts r x i d m k
-accepts (pre-bang {u = u} r) x i d m k = accepts r x (i + 1) d (m + 1) (k + 1) ∙ meet x d true (omega arith) (omega arith) (omega arith)
-accepts (post-atom r) x i d m k = accepts r x i d m k
-accepts (post-star {u = u} r) x i d m k =
+scan-reads (pre-post r) x i d m k = scan-reads r x i d m k
+scan-reads (pre-bang {u = u} r) x i d m k = scan-reads r x (i + 1) d (m + 1) (k + 1) ∙ meet x d true (omega arith) (omega arith) (omega arith)
+scan-reads (post-atom r) x i d m k = scan-reads r x i d m k
+scan-reads (post-star {u = u} r) x i d m k =
     ap (λ (s : List ℕ). from s i d false m k) (append-assoc u (42 ∷ []) x)
-    ∙ accepts r (42 ∷ x) i d m k
+    ∙ scan-reads r (42 ∷ x) i d m k
     ∙ meet x d true (omega (arith, length-append u (42 ∷ []))) (omega arith) (omega arith)
-accepts (atom-letter {b = b} h) x i d m k = letter-step x b i d m k h ∙ meet x d true (omega arith) (omega arith) (omega arith)
-accepts atom-empty x i d m k = meet x d true (omega arith) (omega arith) (omega arith)
-accepts atom-epsilon x i d m k = meet x d true (omega arith) (omega arith) (omega arith)
-accepts (atom-group {u = u} {t = t} r) x i d m k =
+scan-reads (atom-letter {b = b} h) x i d m k = letter-step x b i d m k h ∙ meet x d true (omega arith) (omega arith) (omega arith)
+scan-reads atom-empty x i d m k = meet x d true (omega arith) (omega arith) (omega arith)
+scan-reads atom-epsilon x i d m k = meet x d true (omega arith) (omega arith) (omega arith)
+scan-reads (atom-group {u = u} {t = t} r) x i d m k =
     ap (λ (s : List ℕ). from s (i + 1) (d + 1) false m k) (append-assoc u (41 ∷ []) x)
-    ∙ accepts r (41 ∷ x) (i + 1) (d + 1) m k
+    ∙ scan-reads r (41 ∷ x) (i + 1) (d + 1) m k
     ∙ close-step x (i + 1 + length u) d (m + size t) (k + specials t)
     ∙ meet x d true (omega (arith, length-append u (41 ∷ []))) refl refl
 
@@ -96,5 +96,5 @@ pub sentence-found : {s : List ℕ} {t : Tree} → Reads Alt 0 s t → scanned s
 unfolding scanFrom
 sentence-found {s} {t} r =
     ap (λ (u : List ℕ). scanned u) (sym (append-nil s))
-    ∙ accepts r [] 0 0 0 0
+    ∙ scan-reads r [] 0 0 0 0
     ∙ ap₂ result.Sentence (omega arith) (omega arith)

@@ -1,4 +1,5 @@
--- The scan accepts exactly the sentences, and where it stops is the length of the longest beginning that some sentence also has.
+-- The scan finds exactly the sentences; where it breaks off is the length of the longest beginning that some sentence also has.
+-- Assumes nothing.
 use Prim.Native.Nat.{ℕ, zero, suc, _+_, _-_, _≤_, _<_}
 use native.Mathlib.Omega.{arith}
 use native.Mathlib.Numerals.{add-one}
@@ -11,13 +12,13 @@ use borrow.Author.Tests.{eqb-true, eqb-false}
 use Rattle.event.specs.Event.{isEvent}
 use Rattle.event.proofs.Tests.{T-of}
 use Rattle.rule.specs.Bytes.{isLeaf}
-use Rattle.rule.specs.Scan.{stepOf, stepAfter, stepBefore, scanFrom, scanned, onward}
+use Rattle.rule.specs.Scan.{stepOf, stepAfter, stepBefore, scanFrom, scanned, onward, Means}
 use Rattle.rule.specs.declared.ScanState.{ScanState}
 use Rattle.rule.specs.declared.ScanStep.{ScanStep}
 use Rattle.rule.specs.declared.ScanStep.the-variants.{Stuck, Next}
 use Rattle.rule.specs.declared.ScanResult.{ScanResult}
 use Rattle.rule.specs.declared.ScanResult.the-variants as result
-use Rattle.rule.specs.Tree.{Tree, empty, epsilon, letter, size, specials}
+use Rattle.rule.specs.Tree.{Tree, empty, epsilon, letter}
 use Rattle.rule.specs.Grammar.{Alt, Atom, Reads, atom-letter, atom-empty, atom-epsilon, Sentence, Viable, Longest}
 use Rattle.rule.proofs.ScanAccepts.{sentence-found}
 use Rattle.rule.proofs.ScanSound.{Expects, Ended, none, no-more, no-amp, start, atom-next, bang-next, open-next, star-next, again, amp-next}
@@ -28,7 +29,7 @@ choose : {A : Type 0} (P : A → Type 0) (t : Bool) {a b : A} → (t ≡ true �
 choose P true x y = x refl
 choose P false x y = y refl
 
--- a byte that is an operand is read as a leaf
+-- a leaf byte is read as an atom, at any offset
 IsLeaf : ℕ → Type 0
 IsLeaf b = (t : ℕ → Tree) × ((o : ℕ) → Reads Atom o (b ∷ []) (t o))
 
@@ -175,29 +176,15 @@ ends [] p i q x =
 ends (b ∷ s) p i q x = turned b s p i q x (stepOf q b) refl (stands b p (q .depth) (q .ended) (q .nodes) (q .specials) x)
     (λ r h. ends s (p ++ b ∷ []) (i + 1) r h)
 
--- ---- the verdict
-pub record Whole (s : List ℕ) (m k : ℕ) : Type 0 where
-  pub tree : Tree
-  pub reads : Reads Alt 0 s tree
-  pub nodes : m ≡ size tree
-  pub special : k ≡ specials tree
-
-pub record Fails (s : List ℕ) (n : ℕ) : Type 0 where
-  pub none-such : Sentence s → ⊥
-  pub place : Longest s n
-
-abbrev pub Right : List ℕ → ScanResult → Type 0
-Right s (result.Sentence m k) = Whole s m k
-Right s (result.Broken n) = Fails s n
-
+-- ---- the result
 abbrev initial : ScanState
 initial = record { depth = 0; ended = false; nodes = 0; specials = 0 }
 
-judged : (s : List ℕ) (f : ScanResult) → scanned s ≡ f → Ends s [] 0 initial f → Right s f
-judged s (result.Sentence m k) e x =
+meant : (s : List ℕ) (f : ScanResult) → scanned s ≡ f → Ends s [] 0 initial f → Means s f
+meant s (result.Sentence m k) e x =
     let c = sym e ∙ sentence-found (x .1) in
     record { tree = x .0; reads = x .1; nodes = cc; special = cc }
-judged s (result.Broken j) e x =
+meant s (result.Broken j) e x =
     let z : x .count ≡ j = omega (arith, x .place) in
     record {
       none-such = λ y. let c = sym e ∙ sentence-found (y .1) in apart c;
@@ -211,6 +198,6 @@ judged s (result.Broken j) e x =
     apart : {m k : ℕ} → result.Broken j ≡ result.Sentence m k → ⊥
     apart c = let n : _≡_ {A = ℕ} 0 1 = cc in omega arith
 
-pub scan-right : (s : List ℕ) → Right s (scanned s)
-scan-right s = judged s (scanned s) refl
+pub scan-right : (s : List ℕ) → Means s (scanned s)
+scan-right s = meant s (scanned s) refl
     (ends s [] 0 initial (record { outer = []; left = []; whole = refl; open' = none; before = no-more (no-amp start) }))

@@ -1,4 +1,5 @@
--- What the scan has passed is the beginning of a sentence. A state of the scan is kept with the parts of the grammar that stand open there.
+-- What the scan has passed is the beginning of a sentence:
+-- a state of the scan is kept with the parts of the grammar that stand open there. Assumes nothing.
 use Prim.Native.Nat.{ℕ, zero, suc, _+_}
 use native.Mathlib.Omega.{arith}
 use mathlib.Core.Path.{_≡_, refl, sym, ap, subst, subst₂, _∙_}

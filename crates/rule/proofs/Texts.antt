@@ -1,4 +1,4 @@
--- Facts of the texts that the grammar reads.
+-- Facts of the texts that the grammar reads. Assumes nothing.
 use Prim.Native.Nat.{ℕ, _<_}
 use native.Mathlib.Omega.{arith}
 use mathlib.Core.Path.{_≡_, refl, sym, ap, _∙_}

@@ -1,9 +1,13 @@
 -- The scan of a rule text: one byte after another.
 -- That it finds exactly the sentences is `scan-right` in proofs/ScanDecides. Assumes nothing.
 use Prim.Native.Nat.{ℕ, _+_, _-_}
+use mathlib.Core.Path.{_≡_}
 use mathlib.Core.List.{List, [], _∷_}
 use mathlib.Core.Bool.{Bool, true, false, cond}
 use lib.Dec.{eqb}
+use Rattle.rule.specs.Tree.{Tree, size, specials}
+use Rattle.rule.specs.Grammar as Grammar
+use Rattle.rule.specs.Grammar.{Alt, Reads, Longest}
 use Rattle.rule.specs.Bytes.{isLeaf}
 use Rattle.rule.specs.declared.ScanState.{ScanState}
 use Rattle.rule.specs.declared.ScanStep.{ScanStep}
@@ -50,6 +54,23 @@ scanFrom (b ∷ s) i q = onward (scanFrom s) i (stepOf q b)
 
 abbrev pub scanned : List ℕ → ScanResult
 scanned s = scanFrom s 0 (record { depth = 0; ended = false; nodes = 0; specials = 0 })
+
+-- s is a sentence of m nodes, k of them special
+pub record SentenceOf (s : List ℕ) (m k : ℕ) : Type 0 where
+  pub tree : Tree
+  pub reads : Reads Alt 0 s tree
+  pub nodes : m ≡ size tree
+  pub special : k ≡ specials tree
+
+-- s is no sentence, and n is the length of its longest viable beginning
+pub record BrokenAt (s : List ℕ) (n : ℕ) : Type 0 where
+  pub none-such : Grammar.Sentence s → ⊥
+  pub place : Longest s n
+
+-- what a result of the scan says of the text
+abbrev pub Means : List ℕ → ScanResult → Type 0
+Means s (Sentence m k) = SentenceOf s m k
+Means s (Broken n) = BrokenAt s n
 
 -- the scan finds a sentence
 abbrev pub finds : ScanResult → Bool

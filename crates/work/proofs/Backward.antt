@@ -14,15 +14,15 @@ use Rattle.work.specs.Walk.{concatenation-over, concatenation-out, star-
 use Rattle.work.specs.Walk.{RuleMove}
 use Rattle.work.proofs.At.{Exit, Own, Under, At}
 use Rattle.work.proofs.Moves.{by-root, by-part}
-use Rattle.work.proofs.Slices.{part, slice-nil, one-slice, obeys-concatenation}
+use Rattle.work.proofs.Slices.{split-span, slice-nil, one-slice, obeys-concatenation}
 
 module _ (w : Word) (R : ℕ → ℕ → Type 0) where
   abbrev pub Closed : Tree → ℕ → Type 0
   Closed t x = (s j s′ j′ : ℕ) → RuleMove w t x s j s′ j′ → R s j → R s′ j′
 
   -- by a root's move
-  go : {t : Tree} {x s j s′ j′ : ℕ} → Closed t x → NodeMove w t x s j s′ j′ → R s j → R s′ j′
-  go {s = s} {j = j} {s′ = s′} {j′ = j′} c m r = c s j s′ j′ (by-root w m) r
+  move-on : {t : Tree} {x s j s′ j′ : ℕ} → Closed t x → NodeMove w t x s j s′ j′ → R s j → R s′ j′
+  move-on {s = s} {j = j} {s′ = s′} {j′ = j′} c m r = c s j s′ j′ (by-root w m) r
 
   -- what is closed under a tree's moves is closed under its parts'
   part-closed : {t u : Tree} {x y : ℕ} → Part t x u y → Closed t x → Closed u y
@@ -35,50 +35,50 @@ module _ (w : Word) (R : ℕ → ℕ → Type 0) where
   -- around a star, back to the inner entry
   around : (o : ℕ) (a : Tree) (x : ℕ) → Closed (star o a) x → Through a x
       → (i j k : ℕ) → j ≤ k → k ≤ length w → Power (Lang a) i (slice j k w) → R (entry (star o a) x) j → R (entry a x) k
-  around o a x c th zero j k p q e r = rw (slice-nil w j k p q e) (go c star-in r)
+  around o a x c th zero j k p q e r = rw (slice-nil w j k p q e) (move-on c star-in r)
   around o a x c th (suc i) j k p q h r =
       let (u, v, e, hu, hv) = h in
-      let d = part w j k u v p q e in
+      let d = split-span w j k u v p q e in
       let l : d .mid ≤ length w = omega (arith, d .high) in
       let m : R (entry a x) (d .mid) = around o a x c th i j (d .mid) (d .low) l (rw (d .left) hu) r in
-      go c star-again (th (d .mid) k (record { order = d .high; fits = q; word = rw (d .right) hv }) m)
+      move-on c star-again (th (d .mid) k (record { order = d .high; fits = q; word = rw (d .right) hv }) m)
 
   through-star : (o : ℕ) (a : Tree) (x : ℕ) → Closed (star o a) x → Through a x
       → (i j k : ℕ) → j ≤ k → k ≤ length w → Power (Lang a) i (slice j k w) → R (entry (star o a) x) j → R (exit (star o a) x) k
-  through-star o a x c th zero j k p q e r = rw (slice-nil w j k p q e) (go c star-skip r)
+  through-star o a x c th zero j k p q e r = rw (slice-nil w j k p q e) (move-on c star-skip r)
   through-star o a x c th (suc i) j k p q h r =
       let (u, v, e, hu, hv) = h in
-      let d = part w j k u v p q e in
+      let d = split-span w j k u v p q e in
       let l : d .mid ≤ length w = omega (arith, d .high) in
       let m : R (entry a x) (d .mid) = around o a x c th i j (d .mid) (d .low) l (rw (d .left) hu) r in
-      go c star-out (th (d .mid) k (record { order = d .high; fits = q; word = rw (d .right) hv }) m)
+      move-on c star-out (th (d .mid) k (record { order = d .high; fits = q; word = rw (d .right) hv }) m)
 
   through-union : (o : ℕ) (a b : Tree) (x : ℕ) → Closed (union o a b) x → Through a x → Through b (x + size a)
       → (j k : ℕ) → j ≤ k → k ≤ length w → Lang a (slice j k w) ⊎ Lang b (slice j k w) → R (entry (union o a b) x) j → R
       (exit (union o a b) x) k
-  through-union o a b x c p q j k l m (inl h) r = go c union-left-out
-      (p j k (record { order = l; fits = m; word = h }) (go c union-to-left r))
-  through-union o a b x c p q j k l m (inr h) r = go c union-right-out
-      (q j k (record { order = l; fits = m; word = h }) (go c union-to-right r))
+  through-union o a b x c p q j k l m (inl h) r = move-on c union-left-out
+      (p j k (record { order = l; fits = m; word = h }) (move-on c union-to-left r))
+  through-union o a b x c p q j k l m (inr h) r = move-on c union-right-out
+      (q j k (record { order = l; fits = m; word = h }) (move-on c union-to-right r))
 
   pub through : (t : Tree) (x : ℕ) → Closed t x → Through t x
   through (empty o) x c j k h r = absurd (h .word)
-  through (epsilon o) x c j k h r = rw (slice-nil w j k (h .order) (h .fits) (h .word)) (go c epsilon-through r)
+  through (epsilon o) x c j k h r = rw (slice-nil w j k (h .order) (h .fits) (h .word)) (move-on c epsilon-through r)
   through (letter o l) x c j k h r =
       let p = one-slice w j k l (h .order) (h .fits) (h .word) in
-      rw (p .0) (go c (letter-use (omega (arith, h .fits, p .0)) (p .1)) r)
+      rw (p .0) (move-on c (letter-use (omega (arith, h .fits, p .0)) (p .1)) r)
   through (union o a b) x c j k h r =
       through-union o a b x c (through a x (part-closed (union-left itself) c))
       (through b (x + size a) (part-closed (union-right itself) c))
       j k (h .order) (h .fits) (h .word) r
-  through (intersection o a b) x c j k h r = go c (intersection-span h) r
+  through (intersection o a b) x c j k h r = move-on c (intersection-span h) r
   through (concatenation o a b) x c j k h r =
       let (l, p, q) = obeys-concatenation w o a b j k h in
-      go c concatenation-out (through b (x + size a) (part-closed (concatenation-right itself) c) l k q
-      (go c concatenation-over (through a x (part-closed (concatenation-left itself) c) j l p (go c concatenation-in r))))
+      move-on c concatenation-out (through b (x + size a) (part-closed (concatenation-right itself) c) l k q
+      (move-on c concatenation-over (through a x (part-closed (concatenation-left itself) c) j l p (move-on c concatenation-in r))))
   through (star o a) x c j k h r =
       through-star o a x c (through a x (part-closed (star-inner itself) c)) (h .word .0) j k (h .order) (h .fits) (h .word .1) r
-  through (complement o a) x c j k h r = go c (complement-span h) r
+  through (complement o a) x c j k h r = move-on c (complement-span h) r
 
   abbrev Holds : Tree → ℕ → (ℕ → Type 0) → Type 0
   Holds t x E = (j : ℕ) → E j → R (entry t x) j
@@ -102,26 +102,26 @@ module _ (w : Word) (R : ℕ → ℕ → Type 0) where
   under-in (epsilon o) x c E p s j h = absurd h
   under-in (letter o l) x c E p s j h = absurd h
   under-in (union o a b) x c E p s j (inl (inl h)) = own-in a x (part-closed (union-left itself) c) E
-      (λ j e. go c union-to-left (p j e)) s j h
+      (λ j e. move-on c union-to-left (p j e)) s j h
   under-in (union o a b) x c E p s j (inl (inr h)) = under-in a x (part-closed (union-left itself) c) E
-      (λ j e. go c union-to-left (p j e)) s j h
+      (λ j e. move-on c union-to-left (p j e)) s j h
   under-in (union o a b) x c E p s j (inr (inl h)) = own-in b (x + size a) (part-closed (union-right itself) c) E
-      (λ j e. go c union-to-right (p j e)) s j h
+      (λ j e. move-on c union-to-right (p j e)) s j h
   under-in (union o a b) x c E p s j (inr (inr h)) = under-in b (x + size a) (part-closed (union-right itself) c) E
-      (λ j e. go c union-to-right (p j e)) s j h
+      (λ j e. move-on c union-to-right (p j e)) s j h
   under-in (intersection o a b) x c E p s j h = absurd h
   under-in (concatenation o a b) x c E p s j (inl (inl h)) = own-in a x (part-closed (concatenation-left itself) c) E
-      (λ j e. go c concatenation-in (p j e)) s j h
+      (λ j e. move-on c concatenation-in (p j e)) s j h
   under-in (concatenation o a b) x c E p s j (inl (inr h)) = under-in a x (part-closed (concatenation-left itself) c) E
-      (λ j e. go c concatenation-in (p j e)) s j h
+      (λ j e. move-on c concatenation-in (p j e)) s j h
   under-in (concatenation o a b) x c E p s j (inr (inl h)) =
       own-in b (x + size a) (part-closed (concatenation-right itself) c) (Exit w a E)
-      (λ j e. go c concatenation-over
-      (exits-in a x (part-closed (concatenation-left itself) c) E (λ j e. go c concatenation-in (p j e)) j e)) s j h
+      (λ j e. move-on c concatenation-over
+      (exits-in a x (part-closed (concatenation-left itself) c) E (λ j e. move-on c concatenation-in (p j e)) j e)) s j h
   under-in (concatenation o a b) x c E p s j (inr (inr h)) =
       under-in b (x + size a) (part-closed (concatenation-right itself) c) (Exit w a E)
-      (λ j e. go c concatenation-over
-      (exits-in a x (part-closed (concatenation-left itself) c) E (λ j e. go c concatenation-in (p j e)) j e)) s j h
+      (λ j e. move-on c concatenation-over
+      (exits-in a x (part-closed (concatenation-left itself) c) E (λ j e. move-on c concatenation-in (p j e)) j e)) s j h
   under-in (star o a) x c E p s j (inl h) = own-in a x (part-closed (star-inner itself) c) (Exit w (star o a) E) (inner o a x c E p) s j h
   under-in (star o a) x c E p s j (inr h) = under-in a x (part-closed (star-inner itself) c) (Exit w (star o a) E) (inner o a x c E p) s j h
   under-in (complement o a) x c E p s j h = absurd h

@@ -24,25 +24,25 @@ wider : (lo lo′ hi hi′ : ℕ) (l : List Tree) → lo′ ≤ lo → hi ≤ hi
 wider lo lo′ hi hi′ [] a b h = omega arith
 wider lo lo′ hi hi′ (t ∷ l) a b h = (omega (arith, h .0), wider (suc (offset t)) (suc (offset t)) hi hi′ l (omega arith) b (h .1))
 
-joined : (lo mid mid′ hi : ℕ) (l m : List Tree) → mid ≤ mid′ → RisingIn lo l mid → RisingIn mid′ m hi → RisingIn lo (l ++ m) hi
-joined lo mid mid′ hi [] m a h k = wider mid′ lo hi hi m (omega arith) (omega arith) k
-joined lo mid mid′ hi (t ∷ l) m a h k = (h .0, joined (suc (offset t)) mid mid′ hi l m a (h .1) k)
+rising-append : (lo mid mid′ hi : ℕ) (l m : List Tree) → mid ≤ mid′ → RisingIn lo l mid → RisingIn mid′ m hi → RisingIn lo (l ++ m) hi
+rising-append lo mid mid′ hi [] m a h k = wider mid′ lo hi hi m (omega arith) (omega arith) k
+rising-append lo mid mid′ hi (t ∷ l) m a h k = (h .0, rising-append (suc (offset t)) mid mid′ hi l m a (h .1) k)
 
 rising : {l : Level} {o : ℕ} {u : List ℕ} {t : Tree} → Reads l o u t → RisingIn o (specialParts t) (o + length u)
 rising (alt-conj r) = rising r
 rising {o = o} (alt-bar {u = u} {v = v} {t = t} {r = r} p q) =
-    joined o (o + length u) (o + length u + 1) _ (specialParts t) (specialParts r) (omega arith) (rising p)
+    rising-append o (o + length u) (o + length u + 1) _ (specialParts t) (specialParts r) (omega arith) (rising p)
     (wider _ _ _ _ (specialParts r) (omega arith) (omega (arith, length-append u (124 ∷ v))) (rising q))
 rising (conj-seq r) = rising r
 rising {o = o} (conj-amp {u = u} {v = v} {t = t} {r = r} p q) =
-    joined o (o + length u) (o + length u) _ (specialParts t) (intersection (o + length u) t r ∷ specialParts r) (omega arith) (rising p) (
+    rising-append o (o + length u) (o + length u) _ (specialParts t) (intersection (o + length u) t r ∷ specialParts r) (omega arith) (rising p) (
       omega arith,
       wider (o + length u + 1) _ (o + length u + 1 + length v) _ (specialParts r) (omega arith)
           (omega (arith, length-append u (38 ∷ v))) (rising q),
     )
 rising (seq-pre r) = rising r
 rising {o = o} (seq-more {u = u} {v = v} {t = t} {r = r} p q) =
-    joined o (o + length u) (o + length u) _ (specialParts t) (specialParts r) (omega arith) (rising p)
+    rising-append o (o + length u) (o + length u) _ (specialParts t) (specialParts r) (omega arith) (rising p)
     (wider _ _ _ _ (specialParts r) (omega arith) (omega (arith, length-append u v)) (rising q))
 rising (pre-post r) = rising r
 rising {o = o} (pre-bang {u = u} {t = t} p) = (
@@ -68,7 +68,7 @@ pub parts-rising : {s : List ℕ} {t : Tree} → Reads Alt 0 s t → Rising 0 (s
 parts-rising {s} {t} r = unbounded 0 (0 + length s) (specialParts t) (rising r)
 
 -- ---- exactly the special parts
-abbrev SpecialPart : Tree → ℕ → Tree → Type 0
+abbrev pub SpecialPart : Tree → ℕ → Tree → Type 0
 SpecialPart t x u = (y : ℕ) × Part t x u y × T (isSpecial u)
 
 pub listed-special : (t u : Tree) (x : ℕ) → List·Memᴰ u (specialParts t) → SpecialPart t x u

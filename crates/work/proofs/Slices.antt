@@ -1,4 +1,4 @@
--- How spans join and part, and what a span that obeys a rule gives. Assumes nothing.
+-- How spans join and split, and which spans obey a rule. Assumes nothing.
 use mathlib.Core.Path.{_≡_, refl, sym, ap, subst, _∙_}
 use mathlib.Core.List.{[], _∷_, _++_, cons-eq-cons}
 use Prim.Native.Nat.{ℕ, suc, _+_, _-_, _≤_, _<_}
@@ -16,15 +16,15 @@ slice-join w j k l p q r =
     (slice k l w) h)
 
 -- the cut of a span's word is a cut of the span
-pub record Parted (w : Word) (j l : ℕ) (u v : Word) : Type 0 where
+pub record Split (w : Word) (j l : ℕ) (u v : Word) : Type 0 where
   pub mid : ℕ
   pub low : j ≤ mid
   pub high : mid ≤ l
   pub left : slice j mid w ≡ u
   pub right : slice mid l w ≡ v
 
-pub part : (w : Word) (j l : ℕ) (u v : Word) → j ≤ l → l ≤ length w → slice j l w ≡ u ++ v → Parted w j l u v
-part w j l u v p r e =
+pub split-span : (w : Word) (j l : ℕ) (u v : Word) → j ≤ l → l ≤ length w → slice j l w ≡ u ++ v → Split w j l u v
+split-span w j l u v p r e =
     let n : length u + length v ≡ l - j = sym (length-append u v) ∙ ap length (sym e) ∙ length-slice j l w r in
     let q : j + length u ≤ l = omega arith in
     let s : length (slice j (j + length u) w) ≡ length u = length-slice j (j + length u) w (omega arith) ∙ omega arith in
@@ -74,7 +74,7 @@ pub obeys-concatenation : (w : Word) (o : ℕ) (a b : Tree) (j l : ℕ) → Obey
     → (k : ℕ) × Obeys w a j k × Obeys w b k l
 obeys-concatenation w o a b j l h =
     let (u, v, e, hu, hv) = h .word in
-    let p = part w j l u v (h .order) (h .fits) e in (
+    let p = split-span w j l u v (h .order) (h .fits) e in (
       p .mid,
       record { order = p .low; fits = omega (arith, p .high, h .fits); word = rw (p .left) hu },
       record { order = p .high; fits = h .fits; word = rw (p .right) hv },

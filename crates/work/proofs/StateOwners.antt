@@ -6,18 +6,11 @@ use lib.ListN.{length}
 use Rattle.event.specs.Event.{Word}
 use Rattle.rule.specs.Tree.{Tree, empty, epsilon, letter, union, intersection, concatenation, complement, star, size}
 use Rattle.work.specs.Walk.{entry, exit, Owner, whole, special, Owns, of-rule, of-union-left, of-union-right, of-concatenation-left}
-use Rattle.work.specs.Walk.{of-concatenation-right, of-star, of-intersection-left, of-intersection-right, of-complement, Reaches}
+use Rattle.work.specs.Walk.{of-concatenation-right, of-star, of-intersection-left, of-intersection-right, of-complement, StateOf, Reaches}
 use Rattle.work.proofs.At.{Exit, Own, Under, At}
 use Rattle.work.proofs.Reached.{Reached}
 use Rattle.work.proofs.Forward.{reached-at}
 use Rattle.work.proofs.Owners.{Owned, WalkOf, reaches-walk}
-
--- s is a state that u owns
-pub record StateOf (t : Tree) (u : Owner) (s : ℕ) : Type 0 where
-  pub part : Tree
-  pub first : ℕ
-  pub owns : Owns t u part first
-  pub state : (s ≡ entry part first) ⊎ (s ≡ exit part first)
 
 module _ (w : Word) (t : Tree) where
   own-state : {u : Owner} (v : Tree) (x : ℕ) (E : ℕ → Type 0) (s j : ℕ) → Owns t u v x → Own w v x E s j → StateOf t u s

@@ -1,4 +1,6 @@
 -- The walk that is counted, as document 01 words it. Assumes nothing.
+use mathlib.Core.Path.{_≡_}
+use mathlib.Core.Logic.{_⊎_}
 use Prim.Native.Nat.{ℕ, suc, _+_, _*_, _≤_, _<_}
 use lib.ListN.{length, getD}
 use Rattle.event.specs.Event.{Word}
@@ -82,6 +84,13 @@ pub data Owns (t : Tree) : Owner → Tree → ℕ → Type 0 where
   of-intersection-right : {u : Owner} {o x : ℕ} {a b : Tree} → Owns t u (intersection o a b) x
       → Owns t (special (x + below (intersection o a b))) b (x + size a)
   of-complement : {u : Owner} {o x : ℕ} {a : Tree} → Owns t u (complement o a) x → Owns t (special (x + below (complement o a))) a x
+
+-- s is a state that u owns
+pub record StateOf (t : Tree) (u : Owner) (s : ℕ) : Type 0 where
+  pub part : Tree
+  pub first : ℕ
+  pub owns : Owns t u part first
+  pub state : (s ≡ entry part first) ⊎ (s ≡ exit part first)
 
 -- "For each owner and each start i from 0 to n, the walk begins at number i: at the entry of each side for `&`, at the inner entry for `!`,
 -- at the rule's entry for the whole."
