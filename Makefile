@@ -2,10 +2,10 @@
 .PHONY: help test prove second compare
 
 help:
-	@echo "make test      the gate: formatting, proofs, must-fail edits, the second program's tests"
+	@echo "make test      the gate: formatting, proofs, must-fail edits, the second program's tests and comparisons"
 	@echo "make prove     the proofs alone, from what has changed"
 	@echo "make second    builds the second program: second/target/release/second"
-	@echo "make compare   computes the definitions on random cases against the second program (some minutes)"
+	@echo "make compare   more random cases for the definitions against the second program; SEED=n for others"
 
 test:
 	@scripts/test
@@ -16,5 +16,6 @@ prove:
 second:
 	cd second && cargo build --offline --release
 
-compare: second
-	scripts/compare_definitions.py 1 300 300
+SEED ?= 2
+compare:
+	scripts/compare_definitions $(SEED) 400 400

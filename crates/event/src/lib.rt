@@ -1,4 +1,4 @@
-// Events: the letters that a reader can report. The one test of the alphabet.
+// Events: the one test of the alphabet.
 ghost use mathlib.Core.Path.{_≡_};
 ghost use Rattle.event.specs.Event.{isEvent};
 

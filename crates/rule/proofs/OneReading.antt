@@ -4,7 +4,7 @@ use native.Mathlib.Omega.{arith}
 use mathlib.Core.Path.{_≡_, refl, sym, ap, subst, _∙_}
 use mathlib.Core.List.{List, [], _∷_, _++_}
 use lib.Dec.{T}
-use Rattle.rule.specs.Tree.{Tree, empty, epsilon, letter, union, intersection, concatenation, complement, star, records, node}
+use Rattle.rule.specs.Tree.{Tree, empty, epsilon, letter, union, intersection, concatenation, complement, star, records, nodeRecord}
 use Rattle.rule.specs.Grammar.{Alt, Reads}
 use Rattle.rule.specs.Parse.{alt, measure}
 use Rattle.rule.specs.TreeOf.{stacked, top, treeOf}
@@ -12,13 +12,13 @@ use Rattle.rule.specs.declared.Kind.{Kind}
 use Rattle.rule.specs.declared.Kind.the-variants.{Union, Intersection, Concatenation, Complement, Star}
 use Rattle.rule.specs.Scan.{scanned, Means, finds, isSentence}
 use Rattle.rule.specs.declared.ScanResult.{ScanResult}
-use Rattle.rule.specs.declared.ScanResult.the-variants.{Sentence, Broken}
+use Rattle.rule.specs.declared.ScanResult.the-variants.{Complete, Broken}
 use Rattle.rule.proofs.ScanDecides.{scan-right}
 use Rattle.rule.proofs.Parses.{pushes, two, one, parse-whole}
 
 pair : (t r : Tree) (k : Kind) (o : ℕ) (w : Tree) (st : List Tree) → stacked (r ∷ t ∷ st) o k ≡ w ∷ st → pushes stacked st
     (records t) ≡ t ∷ st → pushes stacked (t ∷ st) (records r) ≡ r ∷ t ∷ st
-    → pushes stacked st (records t ++ records r ++ node o k) ≡ w ∷ st
+    → pushes stacked st (records t ++ records r ++ nodeRecord o k) ≡ w ∷ st
 pair t r k o w st e p q =
     sym (two stacked st (records t) (records r) o k)
     ∙ ap (λ (x : List Tree). stacked (pushes stacked x (records r)) o k) p
@@ -45,7 +45,7 @@ pub one-reading : {s : List ℕ} {t r : Tree} → Reads Alt 0 s t → Reads Alt 
 one-reading p q = sym (tree-is p) ∙ tree-is q
 
 found-reads : (s : List ℕ) (f : ScanResult) → Means s f → T (finds f) → Reads Alt 0 s (treeOf s)
-found-reads s (Sentence m k) x h = subst (Reads Alt 0 s) (sym (tree-is (x .reads))) (x .reads)
+found-reads s (Complete m k) x h = subst (Reads Alt 0 s) (sym (tree-is (x .reads))) (x .reads)
 found-reads s (Broken i) x h = absurd h
 
 -- a text that the scan finds to be a sentence is read as `treeOf` computes

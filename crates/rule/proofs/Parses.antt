@@ -11,7 +11,7 @@ use lib.Dec.{eqb, ltb}
 use borrow.Author.Tests.{lt-ltb}
 use Rattle.event.specs.Event.{isEvent}
 use Rattle.rule.specs.Bytes.{isStart}
-use Rattle.rule.specs.Tree.{Tree, records, node}
+use Rattle.rule.specs.Tree.{Tree, records, nodeRecord}
 use Rattle.rule.specs.Grammar.{Level, Alt, Conj, Seq, Pre, Post, Atom, Reads, alt-conj, alt-bar, conj-seq, conj-amp, seq-pre, seq-more}
 use Rattle.rule.specs.Grammar.{pre-post, pre-bang, post-atom, post-star, atom-letter, atom-empty, atom-epsilon, atom-group}
 use Rattle.rule.specs.Parse as parser
@@ -128,13 +128,13 @@ module _ {A : Type 0} (push : A → ℕ → Kind → A) where
   unbanged (post-star {u = u} r) x = rw (append-assoc u (42 ∷ []) x) (unbanged r (42 ∷ x))
 
   -- the records of a node with two sides, one side, are pushed after those of its sides
-  pub two : (a : A) (x y : List Node) (o : ℕ) (k : Kind) → push (pushes (pushes a x) y) o k ≡ pushes a (x ++ y ++ node o k)
+  pub two : (a : A) (x y : List Node) (o : ℕ) (k : Kind) → push (pushes (pushes a x) y) o k ≡ pushes a (x ++ y ++ nodeRecord o k)
   unfolding pushes
-  two a x y o k = sym (pushes-append a (x ++ y) (node o k) ∙ ap (λ (b : A). push b o k) (pushes-append a x y))
+  two a x y o k = sym (pushes-append a (x ++ y) (nodeRecord o k) ∙ ap (λ (b : A). push b o k) (pushes-append a x y))
 
-  pub one : (a : A) (x : List Node) (o : ℕ) (k : Kind) → push (pushes a x) o k ≡ pushes a (x ++ node o k)
+  pub one : (a : A) (x : List Node) (o : ℕ) (k : Kind) → push (pushes a x) o k ≡ pushes a (x ++ nodeRecord o k)
   unfolding pushes
-  one a x o k = sym (pushes-append a x (node o k))
+  one a x o k = sym (pushes-append a x (nodeRecord o k))
 
   leaf-read : (b : ℕ) (x : List ℕ) (a : A) (o f : ℕ) → eqb b 40 ≡ false → measure atom (b ∷ x) ≤ f → parse push f atom (b ∷ x) (a, o) ≡
       (push a o (leafKind b), o + 1)

@@ -9,7 +9,7 @@ use lib.Dec.{T}
 use borrow.Author.Tests.{ne-eqb}
 use Rattle.event.specs.Event.{isEvent}
 use Rattle.rule.specs.Bytes.{isStart}
-use Rattle.rule.specs.Scan.{to, stepAfter, stepBefore, scanFrom, scanned, onward}
+use Rattle.rule.specs.Scan.{to, stepAfter, stepBefore, scanFrom, scanned, afterStep}
 use Rattle.rule.specs.declared.ScanResult.{ScanResult}
 use Rattle.rule.specs.declared.ScanResult.the-variants as result
 use Rattle.rule.specs.Tree.{Tree, size, specials}
@@ -31,7 +31,7 @@ step-join b d m k h =
 join : (s : List ℕ) (i d m k : ℕ) → isStart (getD s 0 0) ≡ true → from s i d true m k ≡ from s i d false (m + 1) k
 unfolding scanFrom isEvent
 join [] i d m k h = absurd (let z : _≡_ {A = Bool} true false = sym h in let n : _≡_ {A = ℕ} 0 1 = cc in omega arith)
-join (b ∷ s) i d m k h = ap (onward (scanFrom s) i) (step-join b d m k h)
+join (b ∷ s) i d m k h = ap (afterStep (scanFrom s) i) (step-join b d m k h)
 
 meet : (s : List ℕ) (d : ℕ) (a : Bool) {i j m n k c : ℕ} → i ≡ j → m ≡ n → k ≡ c → from s i d a m k ≡ from s j d a n c
 meet s d a p q r = cc
@@ -47,7 +47,7 @@ letter-move b d m k h = simp (letter-not b 33 h (omega arith), letter-not b 40 h
 
 letter-step : (s : List ℕ) (b i d m k : ℕ) → T (isEvent b) → from (b ∷ s) i d false m k ≡ from s (i + 1) d true (m + 1) k
 unfolding scanFrom
-letter-step s b i d m k h = ap (onward (scanFrom s) i) (letter-move b d m k h)
+letter-step s b i d m k h = ap (afterStep (scanFrom s) i) (letter-move b d m k h)
 
 -- one operator between two sides: what the scan makes of both
 between : (c : ℕ) (u v x : List ℕ) (i : ℕ) → i + length u + 1 + length v ≡ i + length (u ++ c ∷ v)
@@ -92,9 +92,9 @@ scan-reads (atom-group {u = u} {t = t} r) x i d m k =
     ∙ meet x d true (omega (arith, length-append u (41 ∷ []))) refl refl
 
 -- each sentence is accepted, with its numbers of nodes and of special nodes
-pub sentence-found : {s : List ℕ} {t : Tree} → Reads Alt 0 s t → scanned s ≡ result.Sentence (size t) (specials t)
+pub sentence-found : {s : List ℕ} {t : Tree} → Reads Alt 0 s t → scanned s ≡ result.Complete (size t) (specials t)
 unfolding scanFrom
 sentence-found {s} {t} r =
     ap (λ (u : List ℕ). scanned u) (sym (append-nil s))
     ∙ scan-reads r [] 0 0 0 0
-    ∙ ap₂ result.Sentence (omega arith) (omega arith)
+    ∙ ap₂ result.Complete (omega arith) (omega arith)

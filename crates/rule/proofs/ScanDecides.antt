@@ -12,7 +12,7 @@ use borrow.Author.Tests.{eqb-true, eqb-false}
 use Rattle.event.specs.Event.{isEvent}
 use Rattle.event.proofs.Tests.{T-of}
 use Rattle.rule.specs.Bytes.{isLeaf}
-use Rattle.rule.specs.Scan.{stepOf, stepAfter, stepBefore, scanFrom, scanned, onward, Means}
+use Rattle.rule.specs.Scan.{stepOf, stepAfter, stepBefore, scanFrom, scanned, afterStep, Means}
 use Rattle.rule.specs.declared.ScanState.{ScanState}
 use Rattle.rule.specs.declared.ScanStep.{ScanStep}
 use Rattle.rule.specs.declared.ScanStep.the-variants.{Stuck, Next}
@@ -104,7 +104,7 @@ record Stop (s p : List ℕ) (i : ℕ) (q : ScanState) (j : ℕ) : Type 0 where
   stuck : (n : ℕ) → count < n → n ≤ length s → (x : List ℕ) → scanFrom (take n s ++ x) i q ≡ result.Broken j
 
 abbrev Ends : List ℕ → List ℕ → ℕ → ScanState → ScanResult → Type 0
-Ends s p i q (result.Sentence m k) = Sentence (p ++ s)
+Ends s p i q (result.Complete m k) = Sentence (p ++ s)
 Ends s p i q (result.Broken j) = Stop s p i q j
 
 same-text : (u v : List ℕ) → u ≡ v → Viable u → Viable v
@@ -136,7 +136,7 @@ here b s p i q x e =
   where
     go : (n : ℕ) → 0 < n → n ≤ suc (length s) → (x : List ℕ) → scanFrom (take n (b ∷ s) ++ x) i q ≡ result.Broken i
     go zero h g x = absurd (omega arith)
-    go (suc n) h g x = ap (onward (scanFrom (take n s ++ x)) i) e
+    go (suc n) h g x = ap (afterStep (scanFrom (take n s ++ x)) i) e
 
 later : (b : ℕ) (s p : List ℕ) (i : ℕ) (q r : ScanState) (j : ℕ) → stepOf q b ≡ Next r → Stop s (p ++ b ∷ []) (i + 1) r j → Stop
     (b ∷ s) p i q j
@@ -152,17 +152,17 @@ later b s p i q r j e t =
   where
     go : (n : ℕ) → suc (t .count) < n → n ≤ suc (length s) → (x : List ℕ) → scanFrom (take n (b ∷ s) ++ x) i q ≡ result.Broken j
     go zero h g x = absurd (omega arith)
-    go (suc n) h g x = ap (onward (scanFrom (take n s ++ x)) i) e ∙ t .stuck n (omega arith) (omega arith) x
+    go (suc n) h g x = ap (afterStep (scanFrom (take n s ++ x)) i) e ∙ t .stuck n (omega arith) (omega arith) x
 
 passed-on : (b : ℕ) (s p : List ℕ) (i : ℕ) (q r : ScanState) → stepOf q b ≡ Next r → (f : ScanResult) → Ends s (p ++ b ∷ []) (i + 1) r f
     → Ends (b ∷ s) p i q f
-passed-on b s p i q r e (result.Sentence m k) x = subst Sentence (append-assoc p (b ∷ []) s) x
+passed-on b s p i q r e (result.Complete m k) x = subst Sentence (append-assoc p (b ∷ []) s) x
 passed-on b s p i q r e (result.Broken j) x = later b s p i q r j e x
 
 turned : (b : ℕ) (s p : List ℕ) (i : ℕ) (q : ScanState) → Stands (q .ended) (q .depth) p → (o : ScanStep) → stepOf q b ≡ o → Holds
     (p ++ b ∷ []) o
     → ((r : ScanState) → Stands (r .ended) (r .depth) (p ++ b ∷ []) → Ends s (p ++ b ∷ []) (i + 1) r (scanFrom s (i + 1) r)) → Ends
-    (b ∷ s) p i q (onward (scanFrom s) i o)
+    (b ∷ s) p i q (afterStep (scanFrom s) i o)
 turned b s p i q x Stuck e h ih = here b s p i q x e
 turned b s p i q x (Next r) e h ih = passed-on b s p i q r e (scanFrom s (i + 1) r) (ih r h)
 
@@ -181,7 +181,7 @@ abbrev initial : ScanState
 initial = record { depth = 0; ended = false; nodes = 0; specials = 0 }
 
 meant : (s : List ℕ) (f : ScanResult) → scanned s ≡ f → Ends s [] 0 initial f → Means s f
-meant s (result.Sentence m k) e x =
+meant s (result.Complete m k) e x =
     let c = sym e ∙ sentence-found (x .1) in
     record { tree = x .0; reads = x .1; nodes = cc; special = cc }
 meant s (result.Broken j) e x =
@@ -195,7 +195,7 @@ meant s (result.Broken j) e x =
       };
     }
   where
-    apart : {m k : ℕ} → result.Broken j ≡ result.Sentence m k → ⊥
+    apart : {m k : ℕ} → result.Broken j ≡ result.Complete m k → ⊥
     apart c = let n : _≡_ {A = ℕ} 0 1 = cc in omega arith
 
 pub scan-right : (s : List ℕ) → Means s (scanned s)

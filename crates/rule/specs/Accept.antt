@@ -1,4 +1,4 @@
--- The language of a rule, decided by computation: `accepts`. That it decides `Lang` is `decides` in proofs/Decides. Assumes nothing.
+-- The language of a rule, decided by computation: `accepts`. That it decides `Lang` is `decides` in proofs/LangDecided. Assumes nothing.
 use mathlib.Core.List.{[], _∷_}
 use mathlib.Core.Bool.{Bool, true, false, not, _&&_, _||_}
 use Prim.Native.Nat.{ℕ, zero, suc}

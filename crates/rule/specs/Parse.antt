@@ -17,7 +17,7 @@ pub data Call : Type 0 where
 abbrev pub leafKind : ℕ → Kind
 leafKind b = cond (eqb b 48) Empty (cond (eqb b 49) Epsilon (Letter b))
 
--- what a level's reading takes at most: ten for each byte, and a few by the level
+-- a depth of recursion that suffices for a level on a text: eight for each byte, and a few by the level
 abbrev pub rank : Call → ℕ
 rank alt = 8
 rank altRest = 1

@@ -6,14 +6,13 @@ use mathlib.Core.List.{List, [], _∷_}
 use mathlib.Core.Bool.{Bool, true, false, cond}
 use lib.Dec.{eqb}
 use Rattle.rule.specs.Tree.{Tree, size, specials}
-use Rattle.rule.specs.Grammar as Grammar
-use Rattle.rule.specs.Grammar.{Alt, Reads, Longest}
+use Rattle.rule.specs.Grammar.{Alt, Reads, Sentence, Longest}
 use Rattle.rule.specs.Bytes.{isLeaf}
 use Rattle.rule.specs.declared.ScanState.{ScanState}
 use Rattle.rule.specs.declared.ScanStep.{ScanStep}
 use Rattle.rule.specs.declared.ScanStep.the-variants.{Stuck, Next}
 use Rattle.rule.specs.declared.ScanResult.{ScanResult}
-use Rattle.rule.specs.declared.ScanResult.the-variants.{Sentence, Broken}
+use Rattle.rule.specs.declared.ScanResult.the-variants.{Complete, Broken}
 
 -- the next state
 abbrev pub to : ℕ → Bool → ℕ → ℕ → ScanStep
@@ -41,16 +40,16 @@ stepOf q b = cond (q .ended) (stepAfter (q .depth) (q .nodes) (q .specials) b) (
 
 -- the end of the text
 abbrev pub finish : ℕ → ScanState → ScanResult
-finish i q = cond (q .ended) (cond (eqb (q .depth) 0) (Sentence (q .nodes) (q .specials)) (Broken i)) (Broken i)
+finish i q = cond (q .ended) (cond (eqb (q .depth) 0) (Complete (q .nodes) (q .specials)) (Broken i)) (Broken i)
 
 -- what follows a step: the place where it was stuck, or the rest of the text
-abbrev pub onward : (ℕ → ScanState → ScanResult) → ℕ → ScanStep → ScanResult
-onward rest i Stuck = Broken i
-onward rest i (Next p) = rest (i + 1) p
+abbrev pub afterStep : (ℕ → ScanState → ScanResult) → ℕ → ScanStep → ScanResult
+afterStep rest i Stuck = Broken i
+afterStep rest i (Next p) = rest (i + 1) p
 
 unfoldable pub scanFrom : List ℕ → ℕ → ScanState → ScanResult
 scanFrom [] i q = finish i q
-scanFrom (b ∷ s) i q = onward (scanFrom s) i (stepOf q b)
+scanFrom (b ∷ s) i q = afterStep (scanFrom s) i (stepOf q b)
 
 abbrev pub scanned : List ℕ → ScanResult
 scanned s = scanFrom s 0 (record { depth = 0; ended = false; nodes = 0; specials = 0 })
@@ -64,17 +63,17 @@ pub record SentenceOf (s : List ℕ) (m k : ℕ) : Type 0 where
 
 -- s is no sentence, and n is the length of its longest viable beginning
 pub record BrokenAt (s : List ℕ) (n : ℕ) : Type 0 where
-  pub none-such : Grammar.Sentence s → ⊥
+  pub none-such : Sentence s → ⊥
   pub place : Longest s n
 
 -- what a result of the scan says of the text
 abbrev pub Means : List ℕ → ScanResult → Type 0
-Means s (Sentence m k) = SentenceOf s m k
+Means s (Complete m k) = SentenceOf s m k
 Means s (Broken n) = BrokenAt s n
 
 -- the scan finds a sentence
 abbrev pub finds : ScanResult → Bool
-finds (Sentence m k) = true
+finds (Complete m k) = true
 finds (Broken i) = false
 
 abbrev pub isSentence : List ℕ → Bool

@@ -66,16 +66,16 @@ specials (complement o a) = suc (specials a)
 specials (star o a) = specials a
 
 -- 01: "Each node record holds its byte offset and its kind, and a letter's kind carries the letter"
-abbrev pub node : ℕ → Kind → List Node
-node o k = record { offset = o; kind = k } ∷ []
+abbrev pub nodeRecord : ℕ → Kind → List Node
+nodeRecord o k = record { offset = o; kind = k } ∷ []
 
 -- 01: "Records stand left side, right side, then the node itself."
 unfoldable pub records : Tree → List Node
-records (empty o) = node o Empty
-records (epsilon o) = node o Epsilon
-records (letter o c) = node o (Letter c)
-records (union o a b) = records a ++ records b ++ node o Union
-records (intersection o a b) = records a ++ records b ++ node o Intersection
-records (concatenation o a b) = records a ++ records b ++ node o Concatenation
-records (complement o a) = records a ++ node o Complement
-records (star o a) = records a ++ node o Star
+records (empty o) = nodeRecord o Empty
+records (epsilon o) = nodeRecord o Epsilon
+records (letter o c) = nodeRecord o (Letter c)
+records (union o a b) = records a ++ records b ++ nodeRecord o Union
+records (intersection o a b) = records a ++ records b ++ nodeRecord o Intersection
+records (concatenation o a b) = records a ++ records b ++ nodeRecord o Concatenation
+records (complement o a) = records a ++ nodeRecord o Complement
+records (star o a) = records a ++ nodeRecord o Star

@@ -34,6 +34,6 @@ pub enum ScanStep {
 
 // What a scan finds: a sentence with its numbers of nodes and of special nodes, or the place where it breaks off.
 pub enum ScanResult {
-    Sentence(usize, usize),
+    Complete(usize, usize),
     Broken(usize),
 }

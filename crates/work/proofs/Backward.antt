@@ -41,7 +41,7 @@ module _ (w : Word) (R : ℕ → ℕ → Type 0) where
       let d = split-span w j k u v p q e in
       let l : d .mid ≤ length w = omega (arith, d .high) in
       let m : R (entry a x) (d .mid) = around o a x c th i j (d .mid) (d .low) l (rw (d .left) hu) r in
-      move-on c star-again (th (d .mid) k (record { order = d .high; fits = q; word = rw (d .right) hv }) m)
+      move-on c star-again (th (d .mid) k (record { order = d .high; inside = q; word = rw (d .right) hv }) m)
 
   through-star : (o : ℕ) (a : Tree) (x : ℕ) → Closed (star o a) x → Through a x
       → (i j k : ℕ) → j ≤ k → k ≤ length w → Power (Lang a) i (slice j k w) → R (entry (star o a) x) j → R (exit (star o a) x) k
@@ -51,33 +51,33 @@ module _ (w : Word) (R : ℕ → ℕ → Type 0) where
       let d = split-span w j k u v p q e in
       let l : d .mid ≤ length w = omega (arith, d .high) in
       let m : R (entry a x) (d .mid) = around o a x c th i j (d .mid) (d .low) l (rw (d .left) hu) r in
-      move-on c star-out (th (d .mid) k (record { order = d .high; fits = q; word = rw (d .right) hv }) m)
+      move-on c star-out (th (d .mid) k (record { order = d .high; inside = q; word = rw (d .right) hv }) m)
 
   through-union : (o : ℕ) (a b : Tree) (x : ℕ) → Closed (union o a b) x → Through a x → Through b (x + size a)
       → (j k : ℕ) → j ≤ k → k ≤ length w → Lang a (slice j k w) ⊎ Lang b (slice j k w) → R (entry (union o a b) x) j → R
       (exit (union o a b) x) k
   through-union o a b x c p q j k l m (inl h) r = move-on c union-left-out
-      (p j k (record { order = l; fits = m; word = h }) (move-on c union-to-left r))
+      (p j k (record { order = l; inside = m; word = h }) (move-on c union-to-left r))
   through-union o a b x c p q j k l m (inr h) r = move-on c union-right-out
-      (q j k (record { order = l; fits = m; word = h }) (move-on c union-to-right r))
+      (q j k (record { order = l; inside = m; word = h }) (move-on c union-to-right r))
 
   pub through : (t : Tree) (x : ℕ) → Closed t x → Through t x
   through (empty o) x c j k h r = absurd (h .word)
-  through (epsilon o) x c j k h r = rw (slice-nil w j k (h .order) (h .fits) (h .word)) (move-on c epsilon-through r)
+  through (epsilon o) x c j k h r = rw (slice-nil w j k (h .order) (h .inside) (h .word)) (move-on c epsilon-through r)
   through (letter o l) x c j k h r =
-      let p = one-slice w j k l (h .order) (h .fits) (h .word) in
-      rw (p .0) (move-on c (letter-use (omega (arith, h .fits, p .0)) (p .1)) r)
+      let p = one-slice w j k l (h .order) (h .inside) (h .word) in
+      rw (p .0) (move-on c (letter-use (omega (arith, h .inside, p .0)) (p .1)) r)
   through (union o a b) x c j k h r =
       through-union o a b x c (through a x (part-closed (union-left itself) c))
       (through b (x + size a) (part-closed (union-right itself) c))
-      j k (h .order) (h .fits) (h .word) r
+      j k (h .order) (h .inside) (h .word) r
   through (intersection o a b) x c j k h r = move-on c (intersection-span h) r
   through (concatenation o a b) x c j k h r =
       let (l, p, q) = obeys-concatenation w o a b j k h in
       move-on c concatenation-out (through b (x + size a) (part-closed (concatenation-right itself) c) l k q
       (move-on c concatenation-over (through a x (part-closed (concatenation-left itself) c) j l p (move-on c concatenation-in r))))
   through (star o a) x c j k h r =
-      through-star o a x c (through a x (part-closed (star-inner itself) c)) (h .word .0) j k (h .order) (h .fits) (h .word .1) r
+      through-star o a x c (through a x (part-closed (star-inner itself) c)) (h .word .0) j k (h .order) (h .inside) (h .word .1) r
   through (complement o a) x c j k h r = move-on c (complement-span h) r
 
   abbrev Holds : Tree → ℕ → (ℕ → Type 0) → Type 0
@@ -94,7 +94,7 @@ module _ (w : Word) (R : ℕ → ℕ → Type 0) where
   -- the inner entries of a star
   inner : (o : ℕ) (a : Tree) (x : ℕ) → Closed (star o a) x → (E : ℕ → Type 0) → Holds (star o a) x E → Holds a x (Exit w (star o a) E)
   inner o a x c E p j h =
-      around o a x c (through a x (part-closed (star-inner itself) c)) (h .2 .word .0) (h .0) j (h .2 .order) (h .2 .fits) (h .2 .word .1)
+      around o a x c (through a x (part-closed (star-inner itself) c)) (h .2 .word .0) (h .0) j (h .2 .order) (h .2 .inside) (h .2 .word .1)
       (p (h .0) (h .1))
 
   under-in : (t : Tree) (x : ℕ) → Closed t x → (E : ℕ → Type 0) → Holds t x E → (s j : ℕ) → Under w t x E s j → R s j

@@ -10,7 +10,7 @@ use lib.Seq.{slice}
 use Rattle.rule.specs.Tree.{Tree, empty, epsilon, letter, union, intersection, concatenation, complement, star, below, size}
 use Rattle.event.specs.Event.{Word}
 use Rattle.rule.specs.Accept.{accepts}
-use Rattle.work.specs.Count.{sumTo, tallyTo, exits, atRoot, belowRoot, places, walks, owned, fullCount}
+use Rattle.work.specs.Count.{sumTo, tallyTo, exits, atRoot, belowRoot, places, walks, specialWalks, fullCount}
 use Rattle.bits.specs.Bit.{indicator}
 use Rattle.event.proofs.Tests.{and-split}
 use Rattle.work.proofs.Decided.{any-found}
@@ -110,7 +110,7 @@ Square w = suc (length w) * (length w + 2)
 walks-bound : (w : Word) (t : Tree) → walks w t ≤ outer t * Square w
 walks-bound w t = omega (arith, sum-bound (outer t) (length w) 0 (places w t) (λ i r l q. places-bound w i r (omega arith) t))
 
-owned-bound : (w : Word) (t : Tree) → owned w t ≤ hidden t * Square w
+owned-bound : (w : Word) (t : Tree) → specialWalks w t ≤ hidden t * Square w
 unfolding hidden
 owned-bound w (empty o) = omega arith
 owned-bound w (epsilon o) = omega arith

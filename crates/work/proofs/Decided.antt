@@ -17,8 +17,8 @@ use Rattle.event.proofs.Tests.{and-split, and-join, or-split, or-left, or-right
 use Rattle.rule.proofs.LangDecided.{decides}
 
 -- F decides E among the numbers of the word
-abbrev pub Decides : Word → (ℕ → Bool) → (ℕ → Type 0) → Type 0
-Decides w F E = (j : ℕ) → E j ↔ ((j ≤ length w) × T (F j))
+abbrev pub DecidedBy : Word → (ℕ → Bool) → (ℕ → Type 0) → Type 0
+DecidedBy w F E = (j : ℕ) → E j ↔ ((j ≤ length w) × T (F j))
 
 pub any-found : (k : ℕ) (f : ℕ → Bool) → T (anyTo k f) → (j : ℕ) × (j ≤ k) × T (f j)
 any-found zero f h = (0, omega arith, h)
@@ -36,18 +36,18 @@ found-any (suc k) f j l h = go (decLe j k) (λ m. found-any k f j m h)
     go (yes m) r = or-right (f (suc k)) (anyTo k f) (r m)
     go (no m) r = let e : j ≡ suc k = omega arith in or-left (f (suc k)) (anyTo k f) (rw e at h)
 
-pub start-decides : (w : Word) (i : ℕ) → i ≤ length w → Decides w (λ j. eqb j i) (λ j. j ≡ i)
+pub start-decides : (w : Word) (i : ℕ) → i ≤ length w → DecidedBy w (λ j. eqb j i) (λ j. j ≡ i)
 start-decides w i l j = (λ e. (omega arith, rw e (eqb-refl i)), λ h. eqb→eq j i (h .1))
 
-pub exit-decides : (w : Word) (t : Tree) (F : ℕ → Bool) (E : ℕ → Type 0) → Decides w F E → Decides w (exits w t F) (Exit w t E)
+pub exit-decides : (w : Word) (t : Tree) (F : ℕ → Bool) (E : ℕ → Type 0) → DecidedBy w F E → DecidedBy w (exits w t F) (Exit w t E)
 exit-decides w t F E d k = (
   λ h. let (j, e, o) = h in (
-    o .fits,
+    o .inside,
     found-any k (λ j. F j && accepts t (slice j k w)) j (o .order)
         (and-join (F j) (accepts t (slice j k w)) (d j .0 e .1) (decides t (slice j k w) .1 (o .word))),
   ),
   λ h. let (j, l, p) = any-found k (λ j. F j && accepts t (slice j k w)) (h .1) in
       let q = and-split (F j) (accepts t (slice j k w)) p in
       let m : j ≤ length w = omega (arith, h .0) in
-      (j, d j .1 (m, q .0), record { order = l; fits = h .0; word = decides t (slice j k w) .0 (q .1) }),
+      (j, d j .1 (m, q .0), record { order = l; inside = h .0; word = decides t (slice j k w) .0 (q .1) }),
 )

@@ -14,7 +14,7 @@ use Rattle.work.proofs.At.{Exit, At}
 use Rattle.work.proofs.Moves.{part-move-range}
 use Rattle.work.proofs.Ranges.{own-range, at-entry, at-exit, at-left, at-right, at-inner}
 use Rattle.work.proofs.Slices.{epsilon-obeys, letter-obeys, concatenation-obeys, star-none, star-more}
-use Rattle.work.proofs.Reached.{Reached, start, step}
+use Rattle.work.proofs.TreeWalk.{TreeWalk, start, step}
 
 -- numbers of the word only
 abbrev pub Bounded : Word → (ℕ → Type 0) → Type 0
@@ -22,14 +22,14 @@ Bounded w E = (k : ℕ) → E k → k ≤ length w
 
 module _ (w : Word) where
   exit-bounded : (t : Tree) (E : ℕ → Type 0) → Bounded w (Exit w t E)
-  exit-bounded t E k h = h .2 .fits
+  exit-bounded t E k h = h .2 .inside
 
   -- the two ways to come to an exit
   exit-union-left : (o : ℕ) (a b : Tree) (E : ℕ → Type 0) (k : ℕ) → Exit w a E k → Exit w (union o a b) E k
-  exit-union-left o a b E k h = (h .0, h .1, record { order = h .2 .order; fits = h .2 .fits; word = inl (h .2 .word) })
+  exit-union-left o a b E k h = (h .0, h .1, record { order = h .2 .order; inside = h .2 .inside; word = inl (h .2 .word) })
 
   exit-union-right : (o : ℕ) (a b : Tree) (E : ℕ → Type 0) (k : ℕ) → Exit w b E k → Exit w (union o a b) E k
-  exit-union-right o a b E k h = (h .0, h .1, record { order = h .2 .order; fits = h .2 .fits; word = inr (h .2 .word) })
+  exit-union-right o a b E k h = (h .0, h .1, record { order = h .2 .order; inside = h .2 .inside; word = inr (h .2 .word) })
 
   exit-concatenation : (o : ℕ) (a b : Tree) (E : ℕ → Type 0) (k : ℕ) → Exit w b (Exit w a E) k → Exit w (concatenation o a b) E k
   exit-concatenation o a b E k h = (h .1 .0, h .1 .1, concatenation-obeys w o a b (h .1 .0) (h .0) k (h .1 .2) (h .2))
@@ -114,6 +114,6 @@ module _ (w : Word) where
       inr (closed p m (Exit w (star o a) E) (exit-bounded (star o a) E)
       (at-inner w (star o a) a x E (Exit w (star o a) E) s j refl (part-move-range w p m) h))
 
-  pub reached-at : {t : Tree} {x i s j : ℕ} → i ≤ length w → Reached w t x i s j → At w t x (λ k. k ≡ i) s j
+  pub reached-at : {t : Tree} {x i s j : ℕ} → i ≤ length w → TreeWalk w t x i s j → At w t x (λ k. k ≡ i) s j
   reached-at l start = inl (inl (refl, refl))
   reached-at {i = i} l (step r m) = closed (m .within) (m .move) (λ k. k ≡ i) (λ k e. omega arith) (reached-at l r)

@@ -37,12 +37,12 @@ module _ (w : Word) (t : Tree) where
             (λ z. absurd z)),
         tally-none r (λ k. obeys w t i (i + (suc d + k)))
             (λ k l. same-test (obeys w t i (i + (suc d + k))) false
-            (λ p. let o = obeys-eq w t i (i + (suc d + k)) .0 p in omega (arith, o .fits)) (λ z. absurd z)),
+            (λ p. let o = obeys-eq w t i (i + (suc d + k)) .0 p in omega (arith, o .inside)) (λ z. absurd z)),
         tally-same (suc d) (λ k. obeys w t i (i + k)) (λ k. accepts t (slice i (i + k) w))
             (λ k l. same-test (obeys w t i (i + k)) (accepts t (slice i (i + k) w))
             (λ p. decides t (slice i (i + k) w) .1 (obeys-eq w t i (i + k) .0 p .word))
             (λ p. obeys-eq w t i (i + k) .1
-            (record { order = omega arith; fits = omega arith; word = decides t (slice i (i + k) w) .0 p }))),
+            (record { order = omega arith; inside = omega arith; word = decides t (slice i (i + k) w) .0 p }))),
       )
 
   list-length : (b : Bool) (i j : ℕ) (l : Spans) → length (listIf b i j l) ≡ indicator b + length l

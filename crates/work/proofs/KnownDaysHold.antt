@@ -56,7 +56,7 @@ days-sentences : T (sentences days)
 unfolding scanFrom isEvent
 days-sentences = tt
 
--- worked out, the table is the table
+-- worked out anew, the days are as they were written
 days-worked : map worked days ≡ days
 unfolding treeOf parse isEvent obeying accepts fullCount
 days-worked = refl

@@ -3,7 +3,7 @@ pub mod Slices
 pub mod Moves
 pub mod At
 pub mod Ranges
-pub mod Reached
+pub mod TreeWalk
 pub mod Forward
 pub mod Backward
 pub mod Walked
@@ -19,4 +19,6 @@ pub mod Found
 pub mod Order
 pub mod PartRecords
 pub mod KnownDaysHold
+pub mod Edges
 pub mod StateOwners
+pub mod OneOwner

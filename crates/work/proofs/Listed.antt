@@ -1,7 +1,7 @@
--- The listed spans are exactly those that obey, each once. Assumes nothing.
+-- The listed spans are exactly those that obey, each once, by rising start and then rising end. Assumes nothing.
 use mathlib.Core.Path.{_≡_, refl, sym, ap, subst}
 use mathlib.Core.Logic.{_⊎_, inl, inr, ⊎-elim, _↔_}
-use mathlib.Core.List.{[], List·Memᴰ, List·Memᴰ·head, List·Memᴰ·tail, List·Memᴰ·not-nil, List·Memᴰ·cases-cons}
+use mathlib.Core.List.{[], _∷_, List·Memᴰ, List·Memᴰ·head, List·Memᴰ·tail, List·Memᴰ·not-nil, List·Memᴰ·cases-cons}
 use mathlib.Core.Bool.{Bool, true, false}
 use Prim.Native.Nat.{ℕ, zero, suc, _+_, _≤_, _<_}
 use native.Mathlib.Omega.{arith}
@@ -15,7 +15,7 @@ use Rattle.rule.specs.Accept.{accepts}
 use Rattle.rule.proofs.LangDecided.{decides}
 use Rattle.work.specs.Span.{Obeys}
 use Rattle.work.specs.SizeOf.{Once, SizeOf}
-use Rattle.work.specs.Spans.{Spans, listIf, fromStart, fromStarts, obeying}
+use Rattle.work.specs.Spans.{Spans, listIf, fromStart, fromStarts, obeying, Before, InOrder}
 
 list-in : (b : Bool) (i j : ℕ) (l : Spans) (p : ℕ × ℕ) → List·Memᴰ p (listIf b i j l) → (T b × (p ≡ (i, j))) ⊎ List·Memᴰ p l
 list-in true i j l p m = ⊎-elim (λ e. inl (tt, e)) (λ k. inr k) (List·Memᴰ·cases-cons m)
@@ -29,9 +29,14 @@ list-hit : (b : Bool) (i j : ℕ) (l : Spans) (p : ℕ × ℕ) → T b → p ≡
 list-hit true i j l p h e = List·Memᴰ·head e
 list-hit false i j l p h e = absurd h
 
-list-once : (b : Bool) (i j : ℕ) (l : Spans) → (List·Memᴰ (i, j) l → ⊥) → Once l → Once (listIf b i j l)
-list-once true i j l h o = (h, o)
-list-once false i j l h o = o
+list-order : (b : Bool) (i j : ℕ) (l : Spans) → ((q : ℕ × ℕ) → List·Memᴰ q l → Before (i, j) q) → InOrder l → InOrder (listIf b i j l)
+list-order true i j l h o = (h, o)
+list-order false i j l h o = o
+
+-- a list in order has no span twice
+order-once : (l : Spans) → InOrder l → Once l
+order-once [] o = tt
+order-once (p ∷ l) o = (λ m. ⊎-elim (λ h. omega (arith, h)) (λ h. omega (arith, h .1)) (o .0 p m), order-once l (o .1))
 
 module _ (w : Word) (t : Tree) where
   abbrev Hit : ℕ → ℕ → Type 0
@@ -69,11 +74,12 @@ module _ (w : Word) (t : Tree) where
       go (inl e) r = list-hit (accepts t (slice i j w)) i j (fromStart w t i d (suc j) l) (i, k) (rw (← e) at h) (ap (λ n. (i, n)) (sym e))
       go (inr m) r = list-keep (accepts t (slice i j w)) i j (fromStart w t i d (suc j) l) (i, k) (r m (omega arith) h)
 
-  start-once : (d i j : ℕ) (l : Spans) → ((k : ℕ) → List·Memᴰ (i, k) l → ⊥) → Once l → Once (fromStart w t i d j l)
-  start-once zero i j l h o = list-once (accepts t (slice i j w)) i j l (h j) o
-  start-once (suc d) i j l h o =
-      list-once (accepts t (slice i j w)) i j (fromStart w t i d (suc j) l)
-      (λ m. ⊎-elim (λ b. omega (arith, b .1)) (λ k. h j k) (start-in d i (suc j) l (i, j) m)) (start-once d i (suc j) l h o)
+  start-order : (d i j : ℕ) (l : Spans) → ((q : ℕ × ℕ) → List·Memᴰ q l → i < q .0) → InOrder l → InOrder (fromStart w t i d j l)
+  start-order zero i j l h o = list-order (accepts t (slice i j w)) i j l (λ q m. inl (h q m)) o
+  start-order (suc d) i j l h o =
+      list-order (accepts t (slice i j w)) i j (fromStart w t i d (suc j) l)
+      (λ q m. ⊎-elim (λ b. inr (sym (b .0), omega (arith, b .1))) (λ k. inl (h q k)) (start-in d i (suc j) l q m))
+      (start-order d i (suc j) l h o)
 
   -- span p lies between i and i + d, and obeys
   abbrev Between : ℕ → ℕ → ℕ × ℕ → Type 0
@@ -101,20 +107,24 @@ module _ (w : Word) (t : Tree) where
           (start-hit (suc d) i i k (fromStarts w t d (suc i)) (omega arith) c (rw (← e) at h))
       go (inr m) r = start-keep (suc d) i i (fromStarts w t d (suc i)) (j, k) (r m b (omega arith) h)
 
-  starts-once : (d i : ℕ) → Once (fromStarts w t d i)
-  starts-once zero i = start-once 0 i i [] (λ k m. List·Memᴰ·not-nil m) tt
-  starts-once (suc d) i = start-once (suc d) i i (fromStarts w t d (suc i)) (λ k m. omega (arith, starts-in d (suc i) (i, k) m .0))
-      (starts-once d (suc i))
+  starts-order : (d i : ℕ) → InOrder (fromStarts w t d i)
+  starts-order zero i = start-order 0 i i [] (λ q m. absurd (List·Memᴰ·not-nil m)) tt
+  starts-order (suc d) i =
+      start-order (suc d) i i (fromStarts w t d (suc i)) (λ q m. omega (arith, starts-in d (suc i) q m .0)) (starts-order d (suc i))
 
   pub listed : (i j : ℕ) → List·Memᴰ (i, j) (obeying w t) ↔ Obeys w t i j
   unfolding obeying
   listed i j = (
     λ m. let h = starts-in (length w) 0
-        (i, j) m in record { order = h .1; fits = omega (arith, h .2); word = decides t (slice i j w) .0 (h .3) },
-    λ o. starts-hit (length w) 0 i j (omega arith) (o .order) (omega (arith, o .fits)) (decides t (slice i j w) .1 (o .word)),
+        (i, j) m in record { order = h .1; inside = omega (arith, h .2); word = decides t (slice i j w) .0 (h .3) },
+    λ o. starts-hit (length w) 0 i j (omega arith) (o .order) (omega (arith, o .inside)) (decides t (slice i j w) .1 (o .word)),
   )
+
+  pub listed-order : InOrder (obeying w t)
+  unfolding obeying
+  listed-order = starts-order (length w) 0
 
   -- the spans that obey are as many as are listed
   pub listed-size : SizeOf (λ (p : ℕ × ℕ). Obeys w t (p .0) (p .1)) (length (obeying w t))
   unfolding obeying
-  listed-size = record { list = obeying w t; once = starts-once (length w) 0; holds = λ p. listed (p .0) (p .1); count = refl }
+  listed-size = record { list = obeying w t; once = order-once (obeying w t) listed-order; holds = λ p. listed (p .0) (p .1); count = refl }

@@ -111,5 +111,5 @@ module _ (w : Word) where
   node-number star-skip l = omega arith
   node-number star-again l = omega arith
   node-number star-out l = omega arith
-  node-number (intersection-span h) l = (h .order, h .fits)
-  node-number (complement-span h) l = (h .order, h .fits)
+  node-number (intersection-span h) l = (h .order, h .inside)
+  node-number (complement-span h) l = (h .order, h .inside)

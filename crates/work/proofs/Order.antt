@@ -12,7 +12,7 @@ use Rattle.rule.specs.Grammar.{Level, Alt, Reads, alt-conj, alt-bar, conj-seq, 
 use Rattle.rule.specs.Grammar.{atom-letter, atom-empty, atom-epsilon, atom-group}
 use Rattle.work.specs.Walk.{Part, itself, union-left, union-right, intersection-left, intersection-right, concatenation-left}
 use Rattle.work.specs.Walk.{concatenation-right, complement-inner, star-inner}
-use Rattle.work.specs.Table.{specialParts, Rising}
+use Rattle.work.specs.Table.{SpecialPart, specialParts, Rising}
 
 -- ---- rising byte offset
 -- the offsets rise, from lo on and below hi
@@ -68,9 +68,6 @@ pub parts-rising : {s : List ℕ} {t : Tree} → Reads Alt 0 s t → Rising 0 (s
 parts-rising {s} {t} r = unbounded 0 (0 + length s) (specialParts t) (rising r)
 
 -- ---- exactly the special parts
-abbrev pub SpecialPart : Tree → ℕ → Tree → Type 0
-SpecialPart t x u = (y : ℕ) × Part t x u y × T (isSpecial u)
-
 pub listed-special : (t u : Tree) (x : ℕ) → List·Memᴰ u (specialParts t) → SpecialPart t x u
 listed-special (empty o) u x m = absurd (List·Memᴰ·not-nil m)
 listed-special (epsilon o) u x m = absurd (List·Memᴰ·not-nil m)

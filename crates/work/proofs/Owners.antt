@@ -8,30 +8,30 @@ use Rattle.event.specs.Event.{Word}
 use Rattle.rule.specs.Tree.{Tree, empty, epsilon, letter, union, intersection, concatenation, complement, star, below, size}
 use Rattle.work.specs.Span.{Obeys}
 use Rattle.work.specs.Walk.{entry, exit, Part, itself, union-left, union-right, intersection-left, intersection-right, concatenation-left}
-use Rattle.work.specs.Walk.{concatenation-right, complement-inner, star-inner, NodeMove, RuleMove, Owner, whole, special, Begins, at-rule}
-use Rattle.work.specs.Walk.{at-left, at-right, at-inner, Reaches, begin, onward}
+use Rattle.work.specs.Walk.{concatenation-right, complement-inner, star-inner, NodeMove, RuleMove, Owner, whole, special, Begins, begin-rule}
+use Rattle.work.specs.Walk.{begin-left, begin-right, begin-inner, Reaches, begin, onward}
 use Rattle.work.proofs.Moves.{Within, part-part, Source, source, move-range, by-part, node-number}
 use Rattle.work.proofs.Ranges.{at-range}
-use Rattle.work.proofs.Reached.{Reached, start, step}
+use Rattle.work.proofs.TreeWalk.{TreeWalk, start, step}
 use Rattle.work.proofs.Forward.{reached-at}
 use Rattle.work.proofs.Walked.{walked-exit}
 
 -- y is a special node of t, whose records stand from x on, and its walk from number i reaches state s at number j
-abbrev pub Owned : Word → Tree → ℕ → ℕ → ℕ → ℕ → ℕ → Type 0
-Owned w (empty o) x y i s j = ⊥
-Owned w (epsilon o) x y i s j = ⊥
-Owned w (letter o c) x y i s j = ⊥
-Owned w (union o a b) x y i s j = Owned w a x y i s j ⊎ Owned w b (x + size a) y i s j
-Owned w (intersection o a b) x y i s j =
-    ((y ≡ x + below (intersection o a b)) × (Reached w a x i s j ⊎ Reached w b (x + size a) i s j))
-    ⊎ (Owned w a x y i s j ⊎ Owned w b (x + size a) y i s j)
-Owned w (concatenation o a b) x y i s j = Owned w a x y i s j ⊎ Owned w b (x + size a) y i s j
-Owned w (complement o a) x y i s j = ((y ≡ x + below (complement o a)) × Reached w a x i s j) ⊎ Owned w a x y i s j
-Owned w (star o a) x y i s j = Owned w a x y i s j
+abbrev pub SpecialWalk : Word → Tree → ℕ → ℕ → ℕ → ℕ → ℕ → Type 0
+SpecialWalk w (empty o) x y i s j = ⊥
+SpecialWalk w (epsilon o) x y i s j = ⊥
+SpecialWalk w (letter o c) x y i s j = ⊥
+SpecialWalk w (union o a b) x y i s j = SpecialWalk w a x y i s j ⊎ SpecialWalk w b (x + size a) y i s j
+SpecialWalk w (intersection o a b) x y i s j =
+    ((y ≡ x + below (intersection o a b)) × (TreeWalk w a x i s j ⊎ TreeWalk w b (x + size a) i s j))
+    ⊎ (SpecialWalk w a x y i s j ⊎ SpecialWalk w b (x + size a) y i s j)
+SpecialWalk w (concatenation o a b) x y i s j = SpecialWalk w a x y i s j ⊎ SpecialWalk w b (x + size a) y i s j
+SpecialWalk w (complement o a) x y i s j = ((y ≡ x + below (complement o a)) × TreeWalk w a x i s j) ⊎ SpecialWalk w a x y i s j
+SpecialWalk w (star o a) x y i s j = SpecialWalk w a x y i s j
 
 abbrev pub WalkOf : Word → Tree → Owner → ℕ → ℕ → ℕ → Type 0
-WalkOf w t whole i s j = Reached w t 0 i s j
-WalkOf w t (special y) i s j = Owned w t 0 y i s j
+WalkOf w t whole i s j = TreeWalk w t 0 i s j
+WalkOf w t (special y) i s j = SpecialWalk w t 0 y i s j
 
 module _ (w : Word) where
   -- a move of a tree is its root's or a side's
@@ -87,11 +87,11 @@ module _ (w : Word) where
   no-source a b x s e q (inr r) (inr (inr h)) = omega arith
 
   module _ (i : ℕ) (l : i ≤ length w) where
-    pub reached-range : (t : Tree) (x s j : ℕ) → Reached w t x i s j → Within x (x + size t) s
+    pub reached-range : (t : Tree) (x s j : ℕ) → TreeWalk w t x i s j → Within x (x + size t) s
     reached-range t x s j r = at-range w t x (λ k. k ≡ i) s j (reached-at w l r)
 
     -- a special owner's states lie below its node, and below the root
-    owned-below : (t : Tree) (x y s j : ℕ) → Owned w t x y i s j → Within x (x + below t) s × (s < 2 * y)
+    owned-below : (t : Tree) (x y s j : ℕ) → SpecialWalk w t x y i s j → Within x (x + below t) s × (s < 2 * y)
     owned-below (empty o) x y s j h = absurd h
     owned-below (epsilon o) x y s j h = absurd h
     owned-below (letter o c) x y s j h = absurd h
@@ -108,7 +108,7 @@ module _ (w : Word) where
     owned-below (complement o a) x y s j (inr h) = let r = owned-below a x y s j h in (omega arith, r .1)
     owned-below (star o a) x y s j h = let r = owned-below a x y s j h in (omega arith, r .1)
 
-    owned-onward : (t : Tree) (x y s j s′ j′ : ℕ) → Owned w t x y i s j → RuleMove w t x s j s′ j′ → Owned w t x y i s′ j′
+    owned-onward : (t : Tree) (x y s j s′ j′ : ℕ) → SpecialWalk w t x y i s j → RuleMove w t x s j s′ j′ → SpecialWalk w t x y i s′ j′
     owned-onward (empty o) x y s j s′ j′ h m = absurd h
     owned-onward (epsilon o) x y s j s′ j′ h m = absurd h
     owned-onward (letter o c) x y s j s′ j′ h m = absurd h
@@ -163,7 +163,7 @@ module _ (w : Word) where
     walk-onward t (special y) s j s′ j′ h m = owned-onward t 0 y s j s′ j′ h m
 
     -- what a part's owners reach, the rule's owners reach
-    part-owned : {t u : Tree} {x z : ℕ} → Part t x u z → (y s j : ℕ) → Owned w u z y i s j → Owned w t x y i s j
+    part-owned : {t u : Tree} {x z : ℕ} → Part t x u z → (y s j : ℕ) → SpecialWalk w u z y i s j → SpecialWalk w t x y i s j
     part-owned itself y s j h = h
     part-owned (union-left p) y s j h = inl (part-owned p y s j h)
     part-owned (union-right p) y s j h = inr (part-owned p y s j h)
@@ -175,23 +175,23 @@ module _ (w : Word) where
     part-owned (star-inner p) y s j h = part-owned p y s j h
 
     begins-walk : {t : Tree} {u : Owner} {s : ℕ} → Begins t u s → WalkOf w t u i s i
-    begins-walk at-rule = start
-    begins-walk (at-left {o} {x} {a} {b} p) = part-owned p (x + below (intersection o a b)) (entry a x) i (inl (refl, inl start))
-    begins-walk (at-right {o} {x} {a} {b} p) = part-owned p (x + below (intersection o a b)) (entry b (x + size a)) i
+    begins-walk begin-rule = start
+    begins-walk (begin-left {o} {x} {a} {b} p) = part-owned p (x + below (intersection o a b)) (entry a x) i (inl (refl, inl start))
+    begins-walk (begin-right {o} {x} {a} {b} p) = part-owned p (x + below (intersection o a b)) (entry b (x + size a)) i
         (inl (refl, inr start))
-    begins-walk (at-inner {o} {x} {a} p) = part-owned p (x + below (complement o a)) (entry a x) i (inl (refl, start))
+    begins-walk (begin-inner {o} {x} {a} p) = part-owned p (x + below (complement o a)) (entry a x) i (inl (refl, start))
 
     pub reaches-walk : {t : Tree} {u : Owner} {s j : ℕ} → Reaches w t u i s j → WalkOf w t u i s j
     reaches-walk (begin b) = begins-walk b
     reaches-walk {t} {u} (onward {s} {j} {s′} {j′} r m) = walk-onward t u s j s′ j′ (reaches-walk r) m
 
     -- ---- and back
-    reached-reaches : {t a : Tree} {x : ℕ} {u : Owner} {s j : ℕ} → Part t 0 a x → Begins t u (entry a x) → Reached w a x i s j
+    reached-reaches : {t a : Tree} {x : ℕ} {u : Owner} {s j : ℕ} → Part t 0 a x → Begins t u (entry a x) → TreeWalk w a x i s j
         → Reaches w t u i s j
     reached-reaches p b start = begin b
     reached-reaches p b (step r m) = onward (reached-reaches p b r) (by-part w p m)
 
-    owned-reaches : (t u : Tree) (x y s j : ℕ) → Part t 0 u x → Owned w u x y i s j → Reaches w t (special y) i s j
+    owned-reaches : (t u : Tree) (x y s j : ℕ) → Part t 0 u x → SpecialWalk w u x y i s j → Reaches w t (special y) i s j
     owned-reaches t (empty o) x y s j p h = absurd h
     owned-reaches t (epsilon o) x y s j p h = absurd h
     owned-reaches t (letter o c) x y s j p h = absurd h
@@ -199,8 +199,8 @@ module _ (w : Word) where
     owned-reaches t (union o a b) x y s j p (inr h) = owned-reaches t b (x + size a) y s j (part-part p (union-right itself)) h
     owned-reaches t (intersection o a b) x y s j p (inl h) =
         subst (λ (z : ℕ). Reaches w t (special z) i s j) (sym (h .0))
-        (⊎-elim (λ g. reached-reaches (part-part p (intersection-left itself)) (at-left p) g)
-        (λ g. reached-reaches (part-part p (intersection-right itself)) (at-right p) g) (h .1))
+        (⊎-elim (λ g. reached-reaches (part-part p (intersection-left itself)) (begin-left p) g)
+        (λ g. reached-reaches (part-part p (intersection-right itself)) (begin-right p) g) (h .1))
     owned-reaches t (intersection o a b) x y s j p (inr (inl h)) = owned-reaches t a x y s j (part-part p (intersection-left itself)) h
     owned-reaches t (intersection o a b) x y s j p (inr (inr h)) = owned-reaches t b (x + size a) y s j
         (part-part p (intersection-right itself)) h
@@ -209,12 +209,12 @@ module _ (w : Word) where
         (part-part p (concatenation-right itself)) h
     owned-reaches t (complement o a) x y s j p (inl h) =
         subst (λ (z : ℕ). Reaches w t (special z) i s j) (sym (h .0))
-        (reached-reaches (part-part p (complement-inner itself)) (at-inner p) (h .1))
+        (reached-reaches (part-part p (complement-inner itself)) (begin-inner p) (h .1))
     owned-reaches t (complement o a) x y s j p (inr h) = owned-reaches t a x y s j (part-part p (complement-inner itself)) h
     owned-reaches t (star o a) x y s j p h = owned-reaches t a x y s j (part-part p (star-inner itself)) h
 
     pub walk-reaches : (t : Tree) (u : Owner) (s j : ℕ) → WalkOf w t u i s j → Reaches w t u i s j
-    walk-reaches t whole s j h = reached-reaches itself at-rule h
+    walk-reaches t whole s j h = reached-reaches itself begin-rule h
     walk-reaches t (special y) s j h = owned-reaches t t 0 y s j itself h
 
     -- 01: "A place is a state with a number j from 0 to n": no walk leads back before its start, nor past the word's end

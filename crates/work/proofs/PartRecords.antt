@@ -7,7 +7,7 @@ use lib.ListN.{length, drop, length-append}
 use lib.Seq.{slice, take-at, drop-at}
 use Rattle.rule.specs.declared.Kind.the-variants.{Union, Intersection, Concatenation, Complement, Star}
 use Rattle.rule.specs.declared.Node.{Node}
-use Rattle.rule.specs.Tree.{Tree, size, node, records}
+use Rattle.rule.specs.Tree.{Tree, size, nodeRecord, records}
 use Rattle.rule.proofs.RecordLaws.{records-length}
 use Rattle.work.specs.Walk.{Part, itself, union-left, union-right, intersection-left, intersection-right, concatenation-left}
 use Rattle.work.specs.Walk.{concatenation-right, complement-inner, star-inner}
@@ -42,14 +42,14 @@ behind {x = x} {u = u} a r =
 run : {t u : Tree} {x y : ℕ} → Part t x u y → Run (records t) x u y
 unfolding records
 run {t} itself = record { front = []; rest = []; whole = sym (append-nil (records t)); long = omega arith }
-run (union-left {o} {b = b} p) = in-front (node o Union) (in-front (records b) (run p))
-run (union-right {o} {a = a} p) = in-front (node o Union) (behind a (run p))
-run (intersection-left {o} {b = b} p) = in-front (node o Intersection) (in-front (records b) (run p))
-run (intersection-right {o} {a = a} p) = in-front (node o Intersection) (behind a (run p))
-run (concatenation-left {o} {b = b} p) = in-front (node o Concatenation) (in-front (records b) (run p))
-run (concatenation-right {o} {a = a} p) = in-front (node o Concatenation) (behind a (run p))
-run (complement-inner {o} p) = in-front (node o Complement) (run p)
-run (star-inner {o} p) = in-front (node o Star) (run p)
+run (union-left {o} {b = b} p) = in-front (nodeRecord o Union) (in-front (records b) (run p))
+run (union-right {o} {a = a} p) = in-front (nodeRecord o Union) (behind a (run p))
+run (intersection-left {o} {b = b} p) = in-front (nodeRecord o Intersection) (in-front (records b) (run p))
+run (intersection-right {o} {a = a} p) = in-front (nodeRecord o Intersection) (behind a (run p))
+run (concatenation-left {o} {b = b} p) = in-front (nodeRecord o Concatenation) (in-front (records b) (run p))
+run (concatenation-right {o} {a = a} p) = in-front (nodeRecord o Concatenation) (behind a (run p))
+run (complement-inner {o} p) = in-front (nodeRecord o Complement) (run p)
+run (star-inner {o} p) = in-front (nodeRecord o Star) (run p)
 
 -- a part's states are those of the records y to y + size u - 1, and these records are the part's
 pub part-records : {t u : Tree} {y : ℕ} → Part t 0 u y → slice y (y + size u) (records t) ≡ records u

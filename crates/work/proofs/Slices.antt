@@ -57,36 +57,36 @@ one-slice w j k c p r e =
 
 -- ---- what obeys
 pub epsilon-obeys : (w : Word) (o j : ℕ) → j ≤ length w → Obeys w (epsilon o) j j
-epsilon-obeys w o j h = record { order = omega arith; fits = h; word = slice-empty j w }
+epsilon-obeys w o j h = record { order = omega arith; inside = h; word = slice-empty j w }
 
 pub letter-obeys : (w : Word) (o c j : ℕ) → j < length w → getD w j 0 ≡ c → Obeys w (letter o c) j (suc j)
-letter-obeys w o c j h e = record { order = omega arith; fits = h; word = slice-one w j h ∙ ap (_∷ []) e }
+letter-obeys w o c j h e = record { order = omega arith; inside = h; word = slice-one w j h ∙ ap (_∷ []) e }
 
 pub concatenation-obeys : (w : Word) (o : ℕ) (a b : Tree) (j k l : ℕ) → Obeys w a j k → Obeys w b k l → Obeys w (concatenation o a b) j l
 concatenation-obeys w o a b j k l p q =
     record {
       order = omega (arith, p .order, q .order);
-      fits = q .fits;
-      word = (slice j k w, slice k l w, sym (slice-join w j k l (p .order) (q .order) (q .fits)), p .word, q .word);
+      inside = q .inside;
+      word = (slice j k w, slice k l w, sym (slice-join w j k l (p .order) (q .order) (q .inside)), p .word, q .word);
     }
 
 pub obeys-concatenation : (w : Word) (o : ℕ) (a b : Tree) (j l : ℕ) → Obeys w (concatenation o a b) j l
     → (k : ℕ) × Obeys w a j k × Obeys w b k l
 obeys-concatenation w o a b j l h =
     let (u, v, e, hu, hv) = h .word in
-    let p = split-span w j l u v (h .order) (h .fits) e in (
+    let p = split-span w j l u v (h .order) (h .inside) e in (
       p .mid,
-      record { order = p .low; fits = omega (arith, p .high, h .fits); word = rw (p .left) hu },
-      record { order = p .high; fits = h .fits; word = rw (p .right) hv },
+      record { order = p .low; inside = omega (arith, p .high, h .inside); word = rw (p .left) hu },
+      record { order = p .high; inside = h .inside; word = rw (p .right) hv },
     )
 
 pub star-none : (w : Word) (o : ℕ) (a : Tree) (j : ℕ) → j ≤ length w → Obeys w (star o a) j j
-star-none w o a j h = record { order = omega arith; fits = h; word = (0, slice-empty j w) }
+star-none w o a j h = record { order = omega arith; inside = h; word = (0, slice-empty j w) }
 
 pub star-more : (w : Word) (o : ℕ) (a : Tree) (j k l : ℕ) → Obeys w (star o a) j k → Obeys w a k l → Obeys w (star o a) j l
 star-more w o a j k l p q =
     record {
       order = omega (arith, p .order, q .order);
-      fits = q .fits;
-      word = (suc (p .word .0), (slice j k w, slice k l w, sym (slice-join w j k l (p .order) (q .order) (q .fits)), p .word .1, q .word));
+      inside = q .inside;
+      word = (suc (p .word .0), (slice j k w, slice k l w, sym (slice-join w j k l (p .order) (q .order) (q .inside)), p .word .1, q .word));
     }

@@ -8,9 +8,9 @@ use Rattle.rule.specs.Tree.{Tree, empty, epsilon, letter, union, intersection, 
 use Rattle.work.specs.Walk.{entry, exit, Owner, whole, special, Owns, of-rule, of-union-left, of-union-right, of-concatenation-left}
 use Rattle.work.specs.Walk.{of-concatenation-right, of-star, of-intersection-left, of-intersection-right, of-complement, StateOf, Reaches}
 use Rattle.work.proofs.At.{Exit, Own, Under, At}
-use Rattle.work.proofs.Reached.{Reached}
+use Rattle.work.proofs.TreeWalk.{TreeWalk}
 use Rattle.work.proofs.Forward.{reached-at}
-use Rattle.work.proofs.Owners.{Owned, WalkOf, reaches-walk}
+use Rattle.work.proofs.Owners.{SpecialWalk, WalkOf, reaches-walk}
 
 module _ (w : Word) (t : Tree) where
   own-state : {u : Owner} (v : Tree) (x : ℕ) (E : ℕ → Type 0) (s j : ℕ) → Owns t u v x → Own w v x E s j → StateOf t u s
@@ -39,14 +39,14 @@ module _ (w : Word) (t : Tree) where
   at-state v x E s j o (inr h) = under-state v x E s j o h
 
   module _ (i : ℕ) (l : i ≤ length w) where
-    reached-state : {u : Owner} (v : Tree) (x s j : ℕ) → Owns t u v x → Reached w v x i s j → StateOf t u s
+    reached-state : {u : Owner} (v : Tree) (x s j : ℕ) → Owns t u v x → TreeWalk w v x i s j → StateOf t u s
     reached-state v x s j o r = at-state v x (λ k. k ≡ i) s j o (reached-at w l r)
 
     -- the place of an owner that is called y
     called : {s y z : ℕ} → y ≡ z → StateOf t (special z) s → StateOf t (special y) s
     called {s} e h = subst (λ n. StateOf t (special n) s) (sym e) h
 
-    owned-state : {u : Owner} (v : Tree) (x y s j : ℕ) → Owns t u v x → Owned w v x y i s j → StateOf t (special y) s
+    owned-state : {u : Owner} (v : Tree) (x y s j : ℕ) → Owns t u v x → SpecialWalk w v x y i s j → StateOf t (special y) s
     owned-state (empty c) x y s j o h = absurd h
     owned-state (epsilon c) x y s j o h = absurd h
     owned-state (letter c e) x y s j o h = absurd h

@@ -23,9 +23,9 @@ unfolding obeys
 obeys-eq w t i j = (
   λ h. let p = and-split (leb i j && leb j (length w)) (accepts t (slice i j w)) h in
       let q = and-split (leb i j) (leb j (length w)) (p .0) in
-      record { order = leb→le i j (q .0); fits = leb→le j (length w) (q .1); word = decides t (slice i j w) .0 (p .1) },
+      record { order = leb→le i j (q .0); inside = leb→le j (length w) (q .1); word = decides t (slice i j w) .0 (p .1) },
   λ o. and-join (leb i j && leb j (length w)) (accepts t (slice i j w))
-      (and-join (leb i j) (leb j (length w)) (le→leb i j (o .order)) (le→leb j (length w) (o .fits)))
+      (and-join (leb i j) (leb j (length w)) (le→leb i j (o .order)) (le→leb j (length w) (o .inside)))
       (decides t (slice i j w) .1 (o .word)),
 )
 
@@ -77,9 +77,9 @@ holds : (w : Word) (t : Tree) (run : List ℕ) (first : ℕ) → length w ≤ 25
 holds w t run first short h =
     record {
       spans = λ i j o.
-          let a : position i j < 64 * blockLength (length w) = omega (arith, o .order, o .fits) in
-          let s : startOf (position i j) ≡ i = omega (arith, o .fits) in
-          let e : endOf (position i j) ≡ j = omega (arith, o .fits) in
+          let a : position i j < 64 * blockLength (length w) = omega (arith, o .order, o .inside) in
+          let s : startOf (position i j) ≡ i = omega (arith, o .inside) in
+          let e : endOf (position i j) ≡ j = omega (arith, o .inside) in
           h (position i j) a ∙ rw (s, e) (of-T (obeys w t i j) (obeys-eq w t i j .1 o));
       others = λ p l e. (
         startOf p,

@@ -15,9 +15,9 @@ use Rattle.work.specs.SizeOf.{SizeOf}
 use Rattle.work.specs.Count.{sumTo, tallyTo, exits, atRoot, belowRoot, places, walks}
 use Rattle.work.proofs.At.{Exit, Own, Under, At}
 use Rattle.work.proofs.Sizes.{size-none, size-one, size-same, size-sum}
-use Rattle.work.proofs.Decided.{Decides, start-decides, exit-decides}
+use Rattle.work.proofs.Decided.{DecidedBy, start-decides, exit-decides}
 use Rattle.work.proofs.Ranges.{own-range, under-range, at-range}
-use Rattle.work.proofs.Reached.{Reached}
+use Rattle.work.proofs.TreeWalk.{TreeWalk}
 use Rattle.work.proofs.Walked.{walked}
 
 -- the places (s, j) of X, in the walk of the owner u from i
@@ -86,7 +86,7 @@ state-size u i z (suc k) F =
     (λ p a b. omega (arith, a .2 .1, b .2 .1)) (place-size u i z (suc k) (F (suc k))) (state-size u i z k F))
 
 module _ (w : Word) (u : Owner) (i : ℕ) where
-  own-size : (t : Tree) (x : ℕ) (F : ℕ → Bool) (E : ℕ → Type 0) → Decides w F E → SizeOf (Of u i (Own w t x E)) (atRoot w t F)
+  own-size : (t : Tree) (x : ℕ) (F : ℕ → Bool) (E : ℕ → Type 0) → DecidedBy w F E → SizeOf (Of u i (Own w t x E)) (atRoot w t F)
   own-size t x F E d =
       of-sum u i (λ s j. (s ≡ entry t x) × E j) (λ s j. (s ≡ exit t x) × Exit w t E j) (tallyTo (length w) F)
       (tallyTo (length w) (exits w t F))
@@ -106,9 +106,9 @@ module _ (w : Word) (u : Owner) (i : ℕ) where
       (state-size u i (exit t x) (length w) (exits w t F)))
 
   abbrev Sized : Tree → Type 1
-  Sized t = (x : ℕ) (F : ℕ → Bool) (E : ℕ → Type 0) → Decides w F E → SizeOf (Of u i (Under w t x E)) (belowRoot w t F)
+  Sized t = (x : ℕ) (F : ℕ → Bool) (E : ℕ → Type 0) → DecidedBy w F E → SizeOf (Of u i (Under w t x E)) (belowRoot w t F)
 
-  at-sized : (t : Tree) → Sized t → (x : ℕ) (F : ℕ → Bool) (E : ℕ → Type 0) → Decides w F E → SizeOf (Of u i (At w t x E))
+  at-sized : (t : Tree) → Sized t → (x : ℕ) (F : ℕ → Bool) (E : ℕ → Type 0) → DecidedBy w F E → SizeOf (Of u i (At w t x E))
       (atRoot w t F + belowRoot w t F)
   at-sized t h x F E d =
       of-sum u i (Own w t x E) (Under w t x E) (atRoot w t F) (belowRoot w t F)
@@ -132,9 +132,9 @@ module _ (w : Word) (u : Owner) (i : ℕ) where
   under-size (complement o a) x F E d = of-none u i
 
   -- the walk from i
-  pub places-size : (t : Tree) (x : ℕ) → i ≤ length w → SizeOf (Of u i (Reached w t x i)) (places w t i)
+  pub places-size : (t : Tree) (x : ℕ) → i ≤ length w → SizeOf (Of u i (TreeWalk w t x i)) (places w t i)
   places-size t x l =
-      size-same (Of u i (At w t x (λ j. j ≡ i))) (Of u i (Reached w t x i)) (places w t i)
+      size-same (Of u i (At w t x (λ j. j ≡ i))) (Of u i (TreeWalk w t x i)) (places w t i)
       (λ p. (
         λ h. (h .0, h .1, walked w t x i (p .state) (p .used) l .1 (h .2)),
         λ h. (h .0, h .1, walked w t x i (p .state) (p .used) l .0 (h .2)),
@@ -168,5 +168,5 @@ starts-size u X f (suc k) h =
     (size-sum (Of u (suc k) (X (suc k))) (UpTo u X k) (f (suc k)) (sumTo k f)
     (λ p a b. omega (arith, a .1, b .1)) (h (suc k) (omega arith)) (starts-size u X f k (λ i l. h i (omega arith))))
 
-pub walks-size : (w : Word) (u : Owner) (t : Tree) (x : ℕ) → SizeOf (All w u (Reached w t x)) (walks w t)
-walks-size w u t x = starts-size u (Reached w t x) (places w t) (length w) (λ i l. places-size w u i t x l)
+pub walks-size : (w : Word) (u : Owner) (t : Tree) (x : ℕ) → SizeOf (All w u (TreeWalk w t x)) (walks w t)
+walks-size w u t x = starts-size u (TreeWalk w t x) (places w t) (length w) (λ i l. places-size w u i t x l)

@@ -10,18 +10,18 @@ use Rattle.work.specs.Span.{Obeys}
 use Rattle.work.specs.Walk.{exit}
 use Rattle.work.proofs.At.{At}
 use Rattle.work.proofs.Ranges.{at-exit}
-use Rattle.work.proofs.Reached.{Reached, start, step}
+use Rattle.work.proofs.TreeWalk.{TreeWalk, start, step}
 use Rattle.work.proofs.Forward.{reached-at}
 use Rattle.work.proofs.Backward.{at-in, through}
 
-pub walked : (w : Word) (t : Tree) (x i s j : ℕ) → i ≤ length w → Reached w t x i s j ↔ At w t x (λ k. k ≡ i) s j
+pub walked : (w : Word) (t : Tree) (x i s j : ℕ) → i ≤ length w → TreeWalk w t x i s j ↔ At w t x (λ k. k ≡ i) s j
 walked w t x i s j l = (
   reached-at w l,
-  at-in w (Reached w t x i) t x (λ s j s′ j′ m r. step r m) (λ k. k ≡ i) (λ k e. rw e start) s j,
+  at-in w (TreeWalk w t x i) t x (λ s j s′ j′ m r. step r m) (λ k. k ≡ i) (λ k e. rw e start) s j,
 )
 
-pub walked-exit : (w : Word) (t : Tree) (x i j : ℕ) → i ≤ length w → Reached w t x i (exit t x) j ↔ Obeys w t i j
+pub walked-exit : (w : Word) (t : Tree) (x i j : ℕ) → i ≤ length w → TreeWalk w t x i (exit t x) j ↔ Obeys w t i j
 walked-exit w t x i j l = (
   λ r. let h = at-exit w t x (λ k. k ≡ i) j (reached-at w l r) in subst (λ k. Obeys w t k j) (h .1) (h .2),
-  λ o. through w (Reached w t x i) t x (λ s j s′ j′ m r. step r m) i j o start,
+  λ o. through w (TreeWalk w t x i) t x (λ s j s′ j′ m r. step r m) i j o start,
 )

@@ -49,16 +49,16 @@ abbrev pub walks : Word → Tree → ℕ
 walks w t = sumTo (length w) (places w t)
 
 -- the places of all special owners
-abbrev pub owned : Word → Tree → ℕ
-owned w (empty o) = 0
-owned w (epsilon o) = 0
-owned w (letter o c) = 0
-owned w (union o a b) = owned w a + owned w b
-owned w (intersection o a b) = (walks w a + walks w b) + (owned w a + owned w b)
-owned w (concatenation o a b) = owned w a + owned w b
-owned w (complement o a) = walks w a + owned w a
-owned w (star o a) = owned w a
+abbrev pub specialWalks : Word → Tree → ℕ
+specialWalks w (empty o) = 0
+specialWalks w (epsilon o) = 0
+specialWalks w (letter o c) = 0
+specialWalks w (union o a b) = specialWalks w a + specialWalks w b
+specialWalks w (intersection o a b) = (walks w a + walks w b) + (specialWalks w a + specialWalks w b)
+specialWalks w (concatenation o a b) = specialWalks w a + specialWalks w b
+specialWalks w (complement o a) = walks w a + specialWalks w a
+specialWalks w (star o a) = specialWalks w a
 
 -- 01: "That size is the full work count, fixed by rule and word alone"
 unfoldable pub fullCount : Word → Tree → ℕ
-fullCount w t = walks w t + owned w t
+fullCount w t = walks w t + specialWalks w t

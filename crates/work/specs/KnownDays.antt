@@ -15,7 +15,7 @@ use Rattle.work.specs.Spans.{Spans}
 use Rattle.work.specs.SizeOf.{SizeOf}
 use Rattle.work.specs.Walk.{Collection}
 
--- the bytes of a quoted text
+-- the bytes of a quoted text of ASCII characters
 abbrev pub bytes : String → List ℕ
 bytes text.[] = []
 bytes (text._∷_ c s) = code c ∷ bytes s
@@ -31,18 +31,18 @@ allSix = (0, 0) ∷ (0, 1) ∷ (0, 2) ∷ (1, 1) ∷ (1, 2) ∷ (2, 2) ∷ []
 
 abbrev pub days : List Day
 days =
-    record { rule = "1"; word = ""; spans = (0, 0) ∷ []; count = some 2 }
-    ∷ record { rule = "0"; word = "a"; spans = []; count = some 2 }
-    ∷ record { rule = "a"; word = ""; spans = []; count = some 1 }
-    ∷ record { rule = "!a"; word = "a"; spans = (0, 0) ∷ (1, 1) ∷ []; count = some 7 }
-    ∷ record { rule = "!0"; word = "ab"; spans = allSix; count = some 12 }
-    ∷ record { rule = "a*"; word = "aa"; spans = allSix; count = some 18 }
-    ∷ record { rule = "a&a"; word = "a"; spans = (0, 1) ∷ []; count = some 9 }
-    ∷ record { rule = "(a&ab)(bc|c)"; word = "abc"; spans = []; count = none }
-    ∷ record { rule = "a(bc|c)&ab(bc|c)"; word = "abc"; spans = (0, 3) ∷ []; count = none }
-    ∷ record { rule = "!ab"; word = "ab"; spans = (1, 2) ∷ []; count = none }
-    ∷ record { rule = "!(ab)"; word = "ab"; spans = (0, 0) ∷ (0, 1) ∷ (1, 1) ∷ (1, 2) ∷ (2, 2) ∷ []; count = none }
-    ∷ record { rule = "!a*"; word = "aa"; spans = []; count = none }
+    record { rule = "1"; word = ""; spans = (0, 0) ∷ []; count = some 2 }  -- C1
+    ∷ record { rule = "0"; word = "a"; spans = []; count = some 2 }  -- C2
+    ∷ record { rule = "a"; word = ""; spans = []; count = some 1 }  -- C3
+    ∷ record { rule = "!a"; word = "a"; spans = (0, 0) ∷ (1, 1) ∷ []; count = some 7 }  -- C4
+    ∷ record { rule = "!0"; word = "ab"; spans = allSix; count = some 12 }  -- C5
+    ∷ record { rule = "a*"; word = "aa"; spans = allSix; count = some 18 }  -- C6
+    ∷ record { rule = "a&a"; word = "a"; spans = (0, 1) ∷ []; count = some 9 }  -- C7
+    ∷ record { rule = "(a&ab)(bc|c)"; word = "abc"; spans = []; count = none }  -- C8
+    ∷ record { rule = "a(bc|c)&ab(bc|c)"; word = "abc"; spans = (0, 3) ∷ []; count = none }  -- C9
+    ∷ record { rule = "!ab"; word = "ab"; spans = (1, 2) ∷ []; count = none }  -- C10
+    ∷ record { rule = "!(ab)"; word = "ab"; spans = (0, 0) ∷ (0, 1) ∷ (1, 1) ∷ (1, 2) ∷ (2, 2) ∷ []; count = none }  -- C11
+    ∷ record { rule = "!a*"; word = "aa"; spans = []; count = none }  -- C12
     ∷ []
 
 -- the count, where there is one, is the size of the collection of reached places

@@ -11,5 +11,5 @@ use Rattle.rule.specs.Lang.{Lang}
 -- that section 2.1 gives that rule or part; what a table holds never decides it."
 pub record Obeys (w : Word) (t : Tree) (i j : ℕ) : Type 0 where
   pub order : i ≤ j
-  pub fits : j ≤ length w
+  pub inside : j ≤ length w
   pub word : Lang t (slice i j w)

@@ -1,7 +1,9 @@
 -- The obeying spans of a word, listed by rising start and then rising end. Assumes nothing.
-use mathlib.Core.List.{List, [], _∷_}
+use mathlib.Core.Path.{_≡_}
+use mathlib.Core.Logic.{_⊎_}
+use mathlib.Core.List.{List, [], _∷_, List·Memᴰ}
 use mathlib.Core.Bool.{Bool, cond}
-use Prim.Native.Nat.{ℕ, zero, suc}
+use Prim.Native.Nat.{ℕ, zero, suc, _<_}
 use lib.ListN.{length}
 use lib.Seq.{slice}
 use Rattle.event.specs.Event.{Word}
@@ -25,6 +27,15 @@ abbrev pub fromStarts : Word → Tree → ℕ → ℕ → Spans
 fromStarts w t zero i = fromStart w t i zero i []
 fromStarts w t (suc d) i = fromStart w t i (suc d) i (fromStarts w t d (suc i))
 
--- 01, The program: "by rising i and then rising j"
+-- 01, The program: "by rising i and then rising j". That it has exactly the obeying spans, in this order, are `listed` and `listed-order`
+-- in proofs/Listed.
 unfoldable pub obeying : Word → Tree → Spans
 obeying w t = fromStarts w t (length w) 0
+
+-- "by rising i and then rising j"
+abbrev pub Before : ℕ × ℕ → ℕ × ℕ → Type 0
+Before p q = (p .0 < q .0) ⊎ ((p .0 ≡ q .0) × (p .1 < q .1))
+
+abbrev pub InOrder : Spans → Type 0
+InOrder [] = Unit {0}
+InOrder (p ∷ l) = ((q : ℕ × ℕ) → List·Memᴰ q l → Before p q) × InOrder l

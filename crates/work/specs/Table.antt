@@ -3,14 +3,15 @@ use mathlib.Core.Path.{_≡_}
 use mathlib.Core.List.{List, [], _∷_, _++_}
 use mathlib.Core.Bool.{Bool, true, _&&_}
 use Prim.Native.Nat.{ℕ, _+_, _*_, _/_, _%_, suc, _≤_, _<_}
-use lib.Dec.{leb}
+use lib.Dec.{T, leb}
 use lib.ListN.{length}
 use lib.Seq.{slice}
 use Rattle.bits.specs.Bit.{bitAt, onesOf, packedRun}
 use Rattle.event.specs.Event.{Word}
-use Rattle.rule.specs.Tree.{Tree, empty, epsilon, letter, union, intersection, concatenation, complement, star, offset}
+use Rattle.rule.specs.Tree.{Tree, empty, epsilon, letter, union, intersection, concatenation, complement, star, offset, isSpecial}
 use Rattle.rule.specs.Accept.{accepts}
 use Rattle.work.specs.Span.{Obeys}
+use Rattle.work.specs.Walk.{Part}
 
 -- span (i, j) is one of the word's and obeys
 unfoldable pub obeys : Word → Tree → ℕ → ℕ → Bool
@@ -42,7 +43,12 @@ pub record HoldsBlock (w : Word) (t : Tree) (run : List ℕ) (first : ℕ) : Typ
 unfoldable pub block : Word → Tree → List ℕ
 block w t = packedRun (blockLength (length w)) (λ p. obeys w t (startOf p) (endOf p))
 
--- 01: "one block for each special node, in rising byte offset: the part of the rule that the node heads, itself included"
+-- u is the part of t that a special node heads, itself included; the records of t stand from x on
+abbrev pub SpecialPart : Tree → ℕ → Tree → Type 0
+SpecialPart t x u = (y : ℕ) × Part t x u y × T (isSpecial u)
+
+-- 01: "one block for each special node, in rising byte offset: the part of the rule that the node heads, itself included".
+-- That these are all of them, in this order, are `listed-special`, `special-listed` and `parts-rising` in proofs/Order.
 abbrev pub specialParts : Tree → List Tree
 specialParts (empty o) = []
 specialParts (epsilon o) = []

@@ -5,7 +5,6 @@ use Prim.Native.Nat.{ℕ, suc, _+_, _*_, _≤_, _<_}
 use lib.ListN.{length, getD}
 use Rattle.event.specs.Event.{Word}
 use Rattle.rule.specs.Tree.{Tree, epsilon, letter, union, intersection, concatenation, complement, star, below, size}
-use Rattle.rule.specs.Lang.{Fits}
 use Rattle.work.specs.Span.{Obeys}
 
 -- "two states for every node, an entry and an exit": 2y and 2y + 1 for the node with the y-th record.
@@ -28,6 +27,10 @@ pub data Part : Tree → ℕ → Tree → ℕ → Type 0 where
   concatenation-right : {o x y : ℕ} {a b u : Tree} → Part b (x + size a) u y → Part (concatenation o a b) x u y
   complement-inner : {o x y : ℕ} {a u : Tree} → Part a x u y → Part (complement o a) x u y
   star-inner : {o x y : ℕ} {a u : Tree} → Part a x u y → Part (star o a) x u y
+
+-- "if that is the letter": the event x is the letter c
+abbrev pub Fits : ℕ → ℕ → Type 0
+Fits c x = x ≡ c
 
 -- the moves that the root of a part brings: from a state and a number of used events to a state and a number
 pub data NodeMove (w : Word) : Tree → ℕ → ℕ → ℕ → ℕ → ℕ → Type 0 where
@@ -95,11 +98,11 @@ pub record StateOf (t : Tree) (u : Owner) (s : ℕ) : Type 0 where
 -- "For each owner and each start i from 0 to n, the walk begins at number i: at the entry of each side for `&`, at the inner entry for `!`,
 -- at the rule's entry for the whole."
 pub data Begins (t : Tree) : Owner → ℕ → Type 0 where
-  at-rule : Begins t whole (entry t 0)
-  at-left : {o x : ℕ} {a b : Tree} → Part t 0 (intersection o a b) x → Begins t (special (x + below (intersection o a b))) (entry a x)
-  at-right : {o x : ℕ} {a b : Tree} → Part t 0 (intersection o a b) x
+  begin-rule : Begins t whole (entry t 0)
+  begin-left : {o x : ℕ} {a b : Tree} → Part t 0 (intersection o a b) x → Begins t (special (x + below (intersection o a b))) (entry a x)
+  begin-right : {o x : ℕ} {a b : Tree} → Part t 0 (intersection o a b) x
       → Begins t (special (x + below (intersection o a b))) (entry b (x + size a))
-  at-inner : {o x : ℕ} {a : Tree} → Part t 0 (complement o a) x → Begins t (special (x + below (complement o a))) (entry a x)
+  begin-inner : {o x : ℕ} {a : Tree} → Part t 0 (complement o a) x → Begins t (special (x + below (complement o a))) (entry a x)
 
 -- "A place is reached, for its owner and a start, if that walk begins there or comes there by finitely many of these steps."
 pub data Reaches (w : Word) (t : Tree) (u : Owner) (i : ℕ) : ℕ → ℕ → Type 0 where

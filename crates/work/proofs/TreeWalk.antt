@@ -5,6 +5,6 @@ use Rattle.rule.specs.Tree.{Tree}
 use Rattle.work.specs.Walk.{entry, RuleMove}
 
 -- the places that the moves of t, whose records stand from x on, reach from its entry at number i
-pub data Reached (w : Word) (t : Tree) (x i : ℕ) : ℕ → ℕ → Type 0 where
-  start : Reached w t x i (entry t x) i
-  step : {s j s′ j′ : ℕ} → Reached w t x i s j → RuleMove w t x s j s′ j′ → Reached w t x i s′ j′
+pub data TreeWalk (w : Word) (t : Tree) (x i : ℕ) : ℕ → ℕ → Type 0 where
+  start : TreeWalk w t x i (entry t x) i
+  step : {s j s′ j′ : ℕ} → TreeWalk w t x i s j → RuleMove w t x s j s′ j′ → TreeWalk w t x i s′ j′
