@@ -16,8 +16,8 @@ use Rattle.rule.specs.declared.ScanResult.the-variants.{Complete, Broken
 use Rattle.rule.proofs.ScanDecides.{scan-right}
 use Rattle.rule.proofs.Parses.{pushes, two, one, parse-whole}
 
-pair : (t r : Tree) (k : Kind) (o : ℕ) (w : Tree) (st : List Tree) → stacked (r ∷ t ∷ st) o k ≡ w ∷ st → pushes stacked st
-    (records t) ≡ t ∷ st → pushes stacked (t ∷ st) (records r) ≡ r ∷ t ∷ st
+pair : (t r : Tree) (k : Kind) (o : ℕ) (w : Tree) (st : List Tree) → stacked (r ∷ t ∷ st) o k ≡ w ∷ st
+    → pushes stacked st (records t) ≡ t ∷ st → pushes stacked (t ∷ st) (records r) ≡ r ∷ t ∷ st
     → pushes stacked st (records t ++ records r ++ nodeRecord o k) ≡ w ∷ st
 pair t r k o w st e p q =
     sym (two stacked st (records t) (records r) o k)

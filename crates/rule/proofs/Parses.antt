@@ -100,8 +100,8 @@ module _ {A : Type 0} (push : A → ℕ → Kind → A) where
       (push (parse push f F s (q .0, q .1 + 1) .0) (q .1) K, parse push f F s (q .0, q .1 + 1) .1))
       (rf : parser.rank F ≤ 8) (rr : 0 < parser.rank R) where
     further : (v x : List ℕ) (a b : A) (o : ℕ) (p : A × ℕ) → Comes R (c ∷ v ++ x) (a, o) p
-        → ((g : ℕ) → measure F (v ++ x) ≤ g → parse push g F (v ++ x) (a, o + 1) ≡ (b, o + 1 + length v)) → Comes R x
-        (push b o K, o + 1 + length v) p
+        → ((g : ℕ) → measure F (v ++ x) ≤ g → parse push g F (v ++ x) (a, o + 1) ≡ (b, o + 1 + length v))
+        → Comes R x (push b o K, o + 1 + length v) p
     further v x a b o p w h = go (w .fuel) (w .enough) (w .same)
       where
         go : (f : ℕ) → measure R (c ∷ v ++ x) ≤ f → p ≡ parse push f R (c ∷ v ++ x) (a, o) → Comes R x (push b o K, o + 1 + length v) p
@@ -136,8 +136,8 @@ module _ {A : Type 0} (push : A → ℕ → Kind → A) where
   unfolding pushes
   one a x o k = sym (pushes-append a x (nodeRecord o k))
 
-  leaf-read : (b : ℕ) (x : List ℕ) (a : A) (o f : ℕ) → eqb b 40 ≡ false → measure atom (b ∷ x) ≤ f → parse push f atom (b ∷ x) (a, o) ≡
-      (push a o (leafKind b), o + 1)
+  leaf-read : (b : ℕ) (x : List ℕ) (a : A) (o f : ℕ) → eqb b 40 ≡ false → measure atom (b ∷ x) ≤ f
+      → parse push f atom (b ∷ x) (a, o) ≡ (push a o (leafKind b), o + 1)
   unfolding parse
   leaf-read b x a o zero h n = absurd (omega arith)
   leaf-read b x a o (suc f) h n = rw (h, lt-ltb 0 (suc (length x)) (omega arith))
@@ -169,19 +169,19 @@ module _ {A : Type 0} (push : A → ℕ → Kind → A) where
   unfolding parse
   star-read x q p w = go (w .fuel) (w .enough) (w .same)
     where
-      go : (f : ℕ) → measure postRest (42 ∷ x) ≤ f → p ≡ parse push f postRest (42 ∷ x) q → Comes postRest x
-          (push (q .0) (q .1) Star, q .1 + 1) p
+      go : (f : ℕ) → measure postRest (42 ∷ x) ≤ f → p ≡ parse push f postRest (42 ∷ x) q
+          → Comes postRest x (push (q .0) (q .1) Star, q .1 + 1) p
       go zero n e = absurd (omega arith)
       go (suc f) n e = record { fuel = f; enough = omega arith; same = e }
 
   join-read : (v x : List ℕ) (a b : A) (o : ℕ) (p : A × ℕ) → isStart (getD (v ++ x) 0 0) ≡ true → Comes seqRest (v ++ x) (a, o) p
-      → ((g : ℕ) → measure pre (v ++ x) ≤ g → parse push g pre (v ++ x) (a, o) ≡ (b, o + length v)) → 0 < length v → Comes seqRest x
-      (push b o Concatenation, o + length v) p
+      → ((g : ℕ) → measure pre (v ++ x) ≤ g → parse push g pre (v ++ x) (a, o) ≡ (b, o + length v)) → 0 < length v
+      → Comes seqRest x (push b o Concatenation, o + length v) p
   unfolding parse
   join-read v x a b o p t w h l = go (w .fuel) (w .enough) (w .same)
     where
-      go : (f : ℕ) → measure seqRest (v ++ x) ≤ f → p ≡ parse push f seqRest (v ++ x) (a, o) → Comes seqRest x
-          (push b o Concatenation, o + length v) p
+      go : (f : ℕ) → measure seqRest (v ++ x) ≤ f → p ≡ parse push f seqRest (v ++ x) (a, o)
+          → Comes seqRest x (push b o Concatenation, o + length v) p
       go zero n e = absurd (omega arith)
       go (suc f) n e =
           record {
@@ -201,9 +201,8 @@ module _ {A : Type 0} (push : A → ℕ → Kind → A) where
   nonempty {u = []} r = absurd (let z : _≡_ {A = Bool} true false = sym (begins r []) in let n : _≡_ {A = ℕ} 0 1 = cc in omega arith)
   nonempty {u = b ∷ u} r = omega arith
 
-  parses : {l : Level} {o : ℕ} {u : List ℕ} {t : Tree} → Reads l o u t → (x : List ℕ) (a : A) → Free l x → (f : ℕ) → measure (level l)
-      (u ++ x) ≤ f
-      → Goes l x (pushes a (records t), o + length u) (parse push f (level l) (u ++ x) (a, o))
+  parses : {l : Level} {o : ℕ} {u : List ℕ} {t : Tree} → Reads l o u t → (x : List ℕ) (a : A) → Free l x → (f : ℕ)
+      → measure (level l) (u ++ x) ≤ f → Goes l x (pushes a (records t), o + length u) (parse push f (level l) (u ++ x) (a, o))
   unfolding parse records pushes isEvent
   parses {o = o} (alt-conj {u = u} {t = t} r) x a free f n =
       lift alt conj altRest (λ f s q. refl) (omega arith) (omega arith) u x a (pushes a (records t)) o f n
@@ -267,8 +266,8 @@ module _ {A : Type 0} (push : A → ℕ → Kind → A) where
       ∙ ap₂ (λ (c : A) (m : ℕ). (c, m)) refl (omega (arith, length-append u (41 ∷ [])))
 
   -- a sentence: the records of its tree are pushed, and all of it is read
-  pub parse-whole : {s : List ℕ} {t : Tree} → Reads Alt 0 s t → (a : A) (f : ℕ) → measure alt s ≤ f → parse push f alt s (a, 0) ≡
-      (pushes a (records t), length s)
+  pub parse-whole : {s : List ℕ} {t : Tree} → Reads Alt 0 s t → (a : A) (f : ℕ) → measure alt s ≤ f
+      → parse push f alt s (a, 0) ≡ (pushes a (records t), length s)
   unfolding parse isEvent
   parse-whole {s} {t} r a f n =
       let z = append-nil s in

@@ -53,8 +53,8 @@ letter-step s b i d m k h = ap (afterStep (scanFrom s) i) (letter-move b d m k h
 between : (c : ℕ) (u v x : List ℕ) (i : ℕ) → i + length u + 1 + length v ≡ i + length (u ++ c ∷ v)
 between c u v x i = omega (arith, length-append u (c ∷ v))
 
-pub scan-reads : {l : Level} {o : ℕ} {u : List ℕ} {t : Tree} → Reads l o u t → (x : List ℕ) (i d m k : ℕ) → from
-    (u ++ x) i d false m k ≡ from x (i + length u) d true (m + size t) (k + specials t)
+pub scan-reads : {l : Level} {o : ℕ} {u : List ℕ} {t : Tree} → Reads l o u t → (x : List ℕ) (i d m k : ℕ)
+    → from (u ++ x) i d false m k ≡ from x (i + length u) d true (m + size t) (k + specials t)
 unfolding scanFrom
 scan-reads (alt-conj r) x i d m k = scan-reads r x i d m k
 scan-reads (alt-bar {u = u} {v = v} {t = t} r q) x i d m k =

@@ -86,8 +86,8 @@ module _ (b d m k : ℕ) (p : List ℕ) where
       (λ n. choose Q (eqb b 40) (λ h. at-byte 40 false (d + 1) h (opened (again d p x)))
       (λ n. choose Q (isLeaf b) (λ h. leaf-next h (again d p x)) (λ n. tt)))))))
 
-stands : (b : ℕ) (p : List ℕ) (d : ℕ) (a : Bool) (m k : ℕ) → Stands a d p → Holds (p ++ b ∷ [])
-    (stepOf (record { depth = d; ended = a; nodes = m; specials = k }) b)
+stands : (b : ℕ) (p : List ℕ) (d : ℕ) (a : Bool) (m k : ℕ) → Stands a d p
+    → Holds (p ++ b ∷ []) (stepOf (record { depth = d; ended = a; nodes = m; specials = k }) b)
 stands b p d true m k x = ended b d m k p x
 stands b p d false m k x = expected b d m k p x
 
@@ -138,8 +138,8 @@ here b s p i q x e =
     go zero h g x = absurd (omega arith)
     go (suc n) h g x = ap (afterStep (scanFrom (take n s ++ x)) i) e
 
-later : (b : ℕ) (s p : List ℕ) (i : ℕ) (q r : ScanState) (j : ℕ) → stepOf q b ≡ Next r → Stop s (p ++ b ∷ []) (i + 1) r j → Stop
-    (b ∷ s) p i q j
+later : (b : ℕ) (s p : List ℕ) (i : ℕ) (q r : ScanState) (j : ℕ) → stepOf q b ≡ Next r → Stop s (p ++ b ∷ []) (i + 1) r j
+    → Stop (b ∷ s) p i q j
 unfolding scanFrom
 later b s p i q r j e t =
     record {
@@ -159,10 +159,10 @@ passed-on : (b : ℕ) (s p : List ℕ) (i : ℕ) (q r : ScanState) → stepOf q 
 passed-on b s p i q r e (result.Complete m k) x = subst Sentence (append-assoc p (b ∷ []) s) x
 passed-on b s p i q r e (result.Broken j) x = later b s p i q r j e x
 
-turned : (b : ℕ) (s p : List ℕ) (i : ℕ) (q : ScanState) → Stands (q .ended) (q .depth) p → (o : ScanStep) → stepOf q b ≡ o → Holds
-    (p ++ b ∷ []) o
-    → ((r : ScanState) → Stands (r .ended) (r .depth) (p ++ b ∷ []) → Ends s (p ++ b ∷ []) (i + 1) r (scanFrom s (i + 1) r)) → Ends
-    (b ∷ s) p i q (afterStep (scanFrom s) i o)
+turned : (b : ℕ) (s p : List ℕ) (i : ℕ) (q : ScanState) → Stands (q .ended) (q .depth) p → (o : ScanStep) → stepOf q b ≡ o
+    → Holds (p ++ b ∷ []) o
+    → ((r : ScanState) → Stands (r .ended) (r .depth) (p ++ b ∷ []) → Ends s (p ++ b ∷ []) (i + 1) r (scanFrom s (i + 1) r))
+    → Ends (b ∷ s) p i q (afterStep (scanFrom s) i o)
 turned b s p i q x Stuck e h ih = here b s p i q x e
 turned b s p i q x (Next r) e h ih = passed-on b s p i q r e (scanFrom s (i + 1) r) (ih r h)
 

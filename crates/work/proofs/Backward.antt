@@ -53,9 +53,8 @@ module _ (w : Word) (R : ℕ → ℕ → Type 0) where
       let m : R (entry a x) (d .mid) = around o a x c th i j (d .mid) (d .low) l (rw (d .left) hu) r in
       move-on c star-out (th (d .mid) k (record { order = d .high; inside = q; word = rw (d .right) hv }) m)
 
-  through-union : (o : ℕ) (a b : Tree) (x : ℕ) → Closed (union o a b) x → Through a x → Through b (x + size a)
-      → (j k : ℕ) → j ≤ k → k ≤ length w → Lang a (slice j k w) ⊎ Lang b (slice j k w) → R (entry (union o a b) x) j → R
-      (exit (union o a b) x) k
+  through-union : (o : ℕ) (a b : Tree) (x : ℕ) → Closed (union o a b) x → Through a x → Through b (x + size a) → (j k : ℕ) → j ≤ k
+      → k ≤ length w → Lang a (slice j k w) ⊎ Lang b (slice j k w) → R (entry (union o a b) x) j → R (exit (union o a b) x) k
   through-union o a b x c p q j k l m (inl h) r = move-on c union-left-out
       (p j k (record { order = l; inside = m; word = h }) (move-on c union-to-left r))
   through-union o a b x c p q j k l m (inr h) r = move-on c union-right-out
@@ -71,7 +70,7 @@ module _ (w : Word) (R : ℕ → ℕ → Type 0) where
       through-union o a b x c (through a x (part-closed (union-left itself) c))
       (through b (x + size a) (part-closed (union-right itself) c))
       j k (h .order) (h .inside) (h .word) r
-  through (intersection o a b) x c j k h r = move-on c (intersection-span h) r
+  through (intersection o a b) x c j k h r = move-on c (intersection-span {a = a} {b = b} h) r
   through (concatenation o a b) x c j k h r =
       let (l, p, q) = obeys-concatenation w o a b j k h in
       move-on c concatenation-out (through b (x + size a) (part-closed (concatenation-right itself) c) l k q

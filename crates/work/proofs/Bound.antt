@@ -97,8 +97,8 @@ module _ (w : Word) (i r : ℕ) (e : i + r ≡ suc (length w)) where
   places-bound t = level-bound t (λ j. eqb j i) (λ j h. let q = eqb→eq j i h in omega arith)
 
 -- 2 (n + 1) + 2 n + … down to where k ends
-sum-bound : (c k d : ℕ) (f : ℕ → ℕ) → ((i r : ℕ) → i ≤ k → i + r ≡ suc (k + d) → f i ≤ c * (2 * r)) → sumTo k f ≤ c *
-    (suc k * (k + 2 + 2 * d))
+sum-bound : (c k d : ℕ) (f : ℕ → ℕ) → ((i r : ℕ) → i ≤ k → i + r ≡ suc (k + d) → f i ≤ c * (2 * r))
+    → sumTo k f ≤ c * (suc k * (k + 2 + 2 * d))
 sum-bound c zero d f h = omega (arith, h 0 (suc d) (omega arith) (omega arith))
 sum-bound c (suc k) d f h =
     omega (arith, h (suc k) (suc d) (omega arith) (omega arith), sum-bound c k (suc d) f (λ i r l q. h i r (omega arith) (omega arith)))

@@ -16,8 +16,7 @@ use Rattle.work.specs.Count.{fullCount}
 use Rattle.work.specs.KnownDays.{bytes}
 
 -- "`)` gives 4 at 0, `(a` at 2, `a)` at 1, `()` at 1, `a|` at 2"
-broken : map (λ (s : String). scanned (bytes s)) (")" ∷ "(a" ∷ "a)" ∷ "()" ∷ "a|" ∷ [])
-    ≡ Broken 0 ∷ Broken 2 ∷ Broken 1 ∷ Broken 1 ∷ Broken 2 ∷ []
+broken : map (λ (s : String). scanned (bytes s)) (")" ∷ "(a" ∷ "a)" ∷ "()" ∷ "a|" ∷ []) ≡ Broken 0 ∷ Broken 2 ∷ Broken 1 ∷ Broken 1 ∷ Broken 2 ∷ []
 unfolding scanFrom isEvent
 broken = refl
 

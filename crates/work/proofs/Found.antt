@@ -23,8 +23,8 @@ use Rattle.work.proofs.TableLaws.{obeys-eq}
 
 module _ (w : Word) (t : Tree) where
   -- of row i only the ends from i to n count
-  row-tally : (i d : ℕ) → i + d ≡ length w → length w ≤ 255 → tallyBelow 256 (obeys w t i) ≡ tallyBelow (suc d)
-      (λ e. accepts t (slice i (i + e) w))
+  row-tally : (i d : ℕ) → i + d ≡ length w → length w ≤ 255
+      → tallyBelow 256 (obeys w t i) ≡ tallyBelow (suc d) (λ e. accepts t (slice i (i + e) w))
   row-tally i d e h =
       let r = 255 - length w in
       let s : 256 ≡ i + (suc d + r) = omega arith in
@@ -52,8 +52,8 @@ module _ (w : Word) (t : Tree) where
   plus-zero : (i j : ℕ) → indicator (accepts t (slice i (j + 0) w)) ≡ indicator (accepts t (slice i j w))
   plus-zero i j = let e : j + 0 ≡ j = omega arith in ap (λ n. indicator (accepts t (slice i n w))) e
 
-  start-length : (d i j : ℕ) (l : Spans) → length (fromStart w t i d j l) ≡ tallyBelow (suc d)
-      (λ e. accepts t (slice i (j + e) w)) + length l
+  start-length : (d i j : ℕ) (l : Spans)
+      → length (fromStart w t i d j l) ≡ tallyBelow (suc d) (λ e. accepts t (slice i (j + e) w)) + length l
   unfolding tallyBelow
   start-length zero i j l = omega (arith, list-length (accepts t (slice i j w)) i j l, plus-zero i j)
   start-length (suc d) i j l =

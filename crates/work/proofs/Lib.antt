@@ -1,4 +1,6 @@
 -- Laws of spans, of the walk and its count, and of the span table.
+pub mod DaysWorked
+pub mod Edges
 pub mod Slices
 pub mod Moves
 pub mod At
@@ -19,6 +21,5 @@ pub mod Found
 pub mod Order
 pub mod PartRecords
 pub mod KnownDaysHold
-pub mod Edges
 pub mod StateOwners
 pub mod OneOwner

@@ -69,8 +69,8 @@ module _ (w : Word) (t : Tree) where
       list-hit (accepts t (slice i j w)) i j l (i, k) (rw e at h) (ap (λ n. (i, n)) e)
   start-hit (suc d) i j k l a b h = go (eq-or-lt-of-le a) (start-hit d i (suc j) k l)
     where
-      go : (j ≡ k) ⊎ (j < k) → (suc j ≤ k → k ≤ suc j + d → Hit i k → List·Memᴰ (i, k) (fromStart w t i d (suc j) l)) → List·Memᴰ (i, k)
-          (fromStart w t i (suc d) j l)
+      go : (j ≡ k) ⊎ (j < k) → (suc j ≤ k → k ≤ suc j + d → Hit i k → List·Memᴰ (i, k) (fromStart w t i d (suc j) l))
+          → List·Memᴰ (i, k) (fromStart w t i (suc d) j l)
       go (inl e) r = list-hit (accepts t (slice i j w)) i j (fromStart w t i d (suc j) l) (i, k) (rw (← e) at h) (ap (λ n. (i, n)) (sym e))
       go (inr m) r = list-keep (accepts t (slice i j w)) i j (fromStart w t i d (suc j) l) (i, k) (r m (omega arith) h)
 
@@ -101,8 +101,8 @@ module _ (w : Word) (t : Tree) where
       subst (λ n. List·Memᴰ (n, k) (fromStarts w t 0 i)) (sym e) (start-hit 0 i i k [] (omega arith) (omega arith) (rw e at h))
   starts-hit (suc d) i j k a b c h = go (eq-or-lt-of-le a) (starts-hit d (suc i) j k)
     where
-      go : (i ≡ j) ⊎ (i < j) → (suc i ≤ j → j ≤ k → k ≤ suc i + d → Hit j k → List·Memᴰ (j, k) (fromStarts w t d (suc i))) → List·Memᴰ
-          (j, k) (fromStarts w t (suc d) i)
+      go : (i ≡ j) ⊎ (i < j) → (suc i ≤ j → j ≤ k → k ≤ suc i + d → Hit j k → List·Memᴰ (j, k) (fromStarts w t d (suc i)))
+          → List·Memᴰ (j, k) (fromStarts w t (suc d) i)
       go (inl e) r = subst (λ n. List·Memᴰ (n, k) (fromStarts w t (suc d) i)) e
           (start-hit (suc d) i i k (fromStarts w t d (suc i)) (omega arith) c (rw (← e) at h))
       go (inr m) r = start-keep (suc d) i i (fromStarts w t d (suc i)) (j, k) (r m b (omega arith) h)

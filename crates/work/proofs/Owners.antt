@@ -76,9 +76,8 @@ module _ (w : Word) where
   from-right t a b x s j s′ j′ r k (inr (inr h)) = h
 
   -- a state below a side's root is no source of the node above
-  no-source : (a b : Tree) (x s e : ℕ) → e ≡ 2 * (x + (size a + size b)) → Within x (x + below a) s ⊎ Within (x + size a)
-      (x + size a + below b) s
-      → (s ≡ e) ⊎ ((s ≡ exit a x) ⊎ (s ≡ exit b (x + size a))) → ⊥
+  no-source : (a b : Tree) (x s e : ℕ) → e ≡ 2 * (x + (size a + size b))
+      → Within x (x + below a) s ⊎ Within (x + size a) (x + size a + below b) s → (s ≡ e) ⊎ ((s ≡ exit a x) ⊎ (s ≡ exit b (x + size a))) → ⊥
   no-source a b x s e q (inl r) (inl h) = omega arith
   no-source a b x s e q (inl r) (inr (inl h)) = omega arith
   no-source a b x s e q (inl r) (inr (inr h)) = omega arith

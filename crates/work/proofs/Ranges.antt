@@ -53,9 +53,9 @@ module _ (w : Word) where
   at-left t a b x E F G s j e r (inr (inl h)) = h
   at-left t a b x E F G s j e r (inr (inr h)) = absurd (omega (arith, at-range b (x + size a) G s j h))
 
-  pub at-right : (t a b : Tree) (x : ℕ) (E F G : ℕ → Type 0) (s j : ℕ) → below t ≡ size a + size b → Within (x + size a)
-      (x + size a + size b) s
-      → Own w t x E s j ⊎ (At w a x F s j ⊎ At w b (x + size a) G s j) → At w b (x + size a) G s j
+  pub at-right : (t a b : Tree) (x : ℕ) (E F G : ℕ → Type 0) (s j : ℕ) → below t ≡ size a + size b
+      → Within (x + size a) (x + size a + size b) s → Own w t x E s j ⊎ (At w a x F s j ⊎ At w b (x + size a) G s j)
+      → At w b (x + size a) G s j
   at-right t a b x E F G s j e r (inl h) = absurd (omega (arith, own-range t x E s j h))
   at-right t a b x E F G s j e r (inr (inl h)) = absurd (omega (arith, at-range a x F s j h))
   at-right t a b x E F G s j e r (inr (inr h)) = h

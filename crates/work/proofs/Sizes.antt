@@ -76,8 +76,8 @@ shorter {A} (x ∷ l) m d h =
     after p a r (inl e) = absurd (d .0 (Memᴰ·cast (sym e) a))
     after p a r (inr b) = Memᴰ·append-right (r .front) b
 
-    left : (p : A) → List·Memᴰ p l → (r : Around x m) → List·Memᴰ p (r .front) ⊎ List·Memᴰ p (x ∷ r .rest) → List·Memᴰ p
-        (r .front ++ r .rest)
+    left : (p : A) → List·Memᴰ p l → (r : Around x m) → List·Memᴰ p (r .front) ⊎ List·Memᴰ p (x ∷ r .rest)
+        → List·Memᴰ p (r .front ++ r .rest)
     left p a r (inl b) = Memᴰ·append-left (r .rest) b
     left p a r (inr b) = after p a r (List·Memᴰ·cases-cons b)
 

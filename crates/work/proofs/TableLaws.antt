@@ -91,8 +91,8 @@ holds w t run first short h =
     }
 
 -- the table's block number b is that of the whole rule, or of the special part that it is for
-pub table-holds : (w : Word) (t : Tree) (b : ℕ) → length w ≤ 255 → b ≤ specials t → HoldsBlock w (getD (t ∷ specialParts t) b t) (table w t)
-    (b * blockLength (length w))
+pub table-holds : (w : Word) (t : Tree) (b : ℕ) → length w ≤ 255 → b ≤ specials t
+    → HoldsBlock w (getD (t ∷ specialParts t) b t) (table w t) (b * blockLength (length w))
 unfolding table
 table-holds w t b short h =
     holds w (getD (t ∷ specialParts t) b t) (blocks w (t ∷ specialParts t)) (b * blockLength (length w)) short

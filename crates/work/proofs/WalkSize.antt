@@ -29,8 +29,8 @@ visit-path : (v : Visit) (u : Owner) (i s j : ℕ) → v .owner ≡ u → v .sta
 visit-path v u i s j a b c d = λ k. record { owner = a k; start = b k; state = c k; used = d k }
 
 -- two parts with no place in common
-pub of-sum : (u : Owner) (i : ℕ) (X Y : ℕ → ℕ → Type 0) (m n : ℕ) → ((s j : ℕ) → X s j → Y s j → ⊥) → SizeOf (Of u i X) m → SizeOf
-    (Of u i Y) n → SizeOf (Of u i (λ s j. X s j ⊎ Y s j)) (m + n)
+pub of-sum : (u : Owner) (i : ℕ) (X Y : ℕ → ℕ → Type 0) (m n : ℕ) → ((s j : ℕ) → X s j → Y s j → ⊥) → SizeOf (Of u i X) m
+    → SizeOf (Of u i Y) n → SizeOf (Of u i (λ s j. X s j ⊎ Y s j)) (m + n)
 of-sum u i X Y m n h y z =
     size-same (λ p. Of u i X p ⊎ Of u i Y p) (Of u i (λ s j. X s j ⊎ Y s j)) (m + n)
     (λ p. (
@@ -108,8 +108,8 @@ module _ (w : Word) (u : Owner) (i : ℕ) where
   abbrev Sized : Tree → Type 1
   Sized t = (x : ℕ) (F : ℕ → Bool) (E : ℕ → Type 0) → DecidedBy w F E → SizeOf (Of u i (Under w t x E)) (belowRoot w t F)
 
-  at-sized : (t : Tree) → Sized t → (x : ℕ) (F : ℕ → Bool) (E : ℕ → Type 0) → DecidedBy w F E → SizeOf (Of u i (At w t x E))
-      (atRoot w t F + belowRoot w t F)
+  at-sized : (t : Tree) → Sized t → (x : ℕ) (F : ℕ → Bool) (E : ℕ → Type 0) → DecidedBy w F E
+      → SizeOf (Of u i (At w t x E)) (atRoot w t F + belowRoot w t F)
   at-sized t h x F E d =
       of-sum u i (Own w t x E) (Under w t x E) (atRoot w t F) (belowRoot w t F)
       (λ s j a b. omega (arith, own-range w t x E s j a, under-range w t x E s j b)) (own-size t x F E d) (h x F E d)
@@ -148,8 +148,8 @@ All w u X v = (v .owner ≡ u) × (v .start ≤ length w) × X (v .start) (v .st
 abbrev UpTo : Owner → (ℕ → ℕ → ℕ → Type 0) → ℕ → Visit → Type 0
 UpTo u X k v = (v .owner ≡ u) × (v .start ≤ k) × X (v .start) (v .state) (v .used)
 
-pub starts-size : (u : Owner) (X : ℕ → ℕ → ℕ → Type 0) (f : ℕ → ℕ) (k : ℕ) → ((i : ℕ) → i ≤ k → SizeOf (Of u i (X i)) (f i)) → SizeOf
-    (UpTo u X k) (sumTo k f)
+pub starts-size : (u : Owner) (X : ℕ → ℕ → ℕ → Type 0) (f : ℕ → ℕ) (k : ℕ) → ((i : ℕ) → i ≤ k → SizeOf (Of u i (X i)) (f i))
+    → SizeOf (UpTo u X k) (sumTo k f)
 starts-size u X f zero h =
     size-same (Of u 0 (X 0)) (UpTo u X 0) (f 0)
     (λ p. (

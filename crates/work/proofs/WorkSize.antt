@@ -63,8 +63,8 @@ module _ (w : Word) where
       (λ v g h. let e : g .0 ≡ h .0 = one-node (g .1) (h .1) in omega (arith, e, visits-range a x v g, visits-range b (x + size a) v h))
       p q
 
-  either-side : (P Q : ℕ → ℕ → ℕ → ℕ → Type 0) (v : Visit) → (BySpecial P v ⊎ BySpecial Q v) ↔ BySpecial
-      (λ y i s j. P y i s j ⊎ Q y i s j) v
+  either-side : (P Q : ℕ → ℕ → ℕ → ℕ → Type 0) (v : Visit)
+      → (BySpecial P v ⊎ BySpecial Q v) ↔ BySpecial (λ y i s j. P y i s j ⊎ Q y i s j) v
   either-side P Q v = (
     λ h. ⊎-elim (λ g. (g .0, g .1, g .2, inl (g .3))) (λ g. (g .0, g .1, g .2, inr (g .3))) h,
     λ h. ⊎-elim (λ g. inl (h .0, h .1, h .2, g)) (λ g. inr (h .0, h .1, h .2, g)) (h .3),
@@ -78,8 +78,8 @@ module _ (w : Word) where
       (specialWalks w a + specialWalks w b) (either-side (SpecialWalk w a x) (SpecialWalk w b (x + size a))) (beside a b x p q)
 
   -- the two walks of `&`
-  pub both-size : (a b : Tree) (x : ℕ) (u : Owner) → SizeOf (λ v. All w u (TreeWalk w a x) v ⊎ All w u (TreeWalk w b (x + size a)) v)
-      (walks w a + walks w b)
+  pub both-size : (a b : Tree) (x : ℕ) (u : Owner)
+      → SizeOf (λ v. All w u (TreeWalk w a x) v ⊎ All w u (TreeWalk w b (x + size a)) v) (walks w a + walks w b)
   both-size a b x u =
       size-sum (All w u (TreeWalk w a x)) (All w u (TreeWalk w b (x + size a))) (walks w a) (walks w b)
       (λ v g h. omega (
