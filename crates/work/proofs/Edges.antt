@@ -16,12 +16,19 @@ use Rattle.work.specs.Count.{fullCount}
 use Rattle.work.specs.KnownDays.{bytes}
 
 -- "`)` gives 4 at 0, `(a` at 2, `a)` at 1, `()` at 1, `a|` at 2"
-broken : map (λ (s : String). scanned (bytes s)) (")" ∷ "(a" ∷ "a)" ∷ "()" ∷ "a|" ∷ []) ≡ Broken 0 ∷ Broken 2 ∷ Broken 1 ∷ Broken 1 ∷ Broken 2 ∷ []
+broken : map (λ (s : String). scanned (bytes s)) (")" ∷ "(a" ∷ "a)" ∷ "()" ∷ "a|" ∷ [])
+    ≡ Broken 0 ∷ Broken 2 ∷ Broken 1 ∷ Broken 1 ∷ Broken 2 ∷ []
 unfolding scanFrom isEvent
 broken = refl
 
+abbrev letters : ℕ → List ℕ
+letters n = replicate n 97
+
+abbrev complements : ℕ → List ℕ
+complements n = replicate n 33 ++ (97 ∷ [])
+
 -- "32 letters a make 63 nodes, 33 make 65 […]; 32 with one final star make 64. Seven `!` before a pass, eight give 6."
-counted : map scanned (replicate 32 97 ∷ replicate 33 97 ∷ (replicate 32 97 ++ (42 ∷ [])) ∷ (replicate 7 33 ++ (97 ∷ [])) ∷ (replicate 8 33 ++ (97 ∷ [])) ∷ [])
+counted : map scanned (letters 32 ∷ letters 33 ∷ (letters 32 ++ (42 ∷ [])) ∷ complements 7 ∷ complements 8 ∷ [])
     ≡ Complete 63 0 ∷ Complete 65 0 ∷ Complete 64 0 ∷ Complete 8 7 ∷ Complete 9 8 ∷ []
 unfolding scanFrom isEvent
 counted = refl

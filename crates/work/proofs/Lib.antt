@@ -10,7 +10,7 @@ pub mod Forward
 pub mod Backward
 pub mod Walked
 pub mod Decided
-pub mod Bound
+pub mod WorkBound
 pub mod Sizes
 pub mod WalkSize
 pub mod Owners
