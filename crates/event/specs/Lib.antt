@@ -1,2 +1,3 @@
--- What an event is.
+-- What an event is; quoted texts.
 pub mod Event
+pub mod Text

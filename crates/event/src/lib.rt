@@ -6,5 +6,5 @@ ghost use Rattle.event.specs.Event.{isEvent};
 pub fn is_event(b: u8) -> bool
     ensures { λ r. ⌜ r ≡ isEvent b ⌝ }
 {
-    97 <= b && b <= 122
+    b'a' <= b && b <= b'z'
 }

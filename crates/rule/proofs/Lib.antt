@@ -1,9 +1,8 @@
--- Laws of rule texts.
-pub mod LangDecided
-pub mod RecordLaws
-pub mod Texts
-pub mod ScanAccepts
-pub mod ScanSound
-pub mod ScanDecides
-pub mod Parses
-pub mod OneReading
+-- What the reader's answer means.
+pub mod Answered
+mod Edges
+-- Laws that the proofs of its functions cite.
+mod ForeignLaws
+mod ScanLaws
+mod ReaderLaws
+mod Stored

@@ -1,10 +1,5 @@
--- What a rule text is and means: the definitions to believe. Their laws stand in proofs/.
-pub mod Tree
-pub mod Grammar
-pub mod Lang
--- The same by computation.
-pub mod Accept
-pub mod Bytes
-pub mod Parse
-pub mod TreeOf
-pub mod Scan
+-- What the rule reader answers, as values and computed, and what the answer says by the grammar.
+pub mod RuleAnswer
+pub mod RuleMeaning
+-- What its private functions do.
+pub mod Reader

@@ -1,39 +1,93 @@
-// Rules: the records of a rule's nodes, and the state of the scan over a rule text.
+// Rule texts: the reader that finds what a text is and writes the records of its nodes.
+mod bytes;
+mod levels;
+mod records;
+mod scan;
 
-// What a node is. A letter's kind carries the letter.
-pub enum Kind {
-    Empty,
-    Epsilon,
-    Letter(u8),
-    Union,
-    Intersection,
-    Concatenation,
-    Complement,
-    Star,
+use regex::Kind;
+use regex::Node;
+use regex::ScanResult;
+ghost use mathlib.Core.Path.{_≡_};
+ghost use Prim.Native.Nat.{_≤_};
+ghost use lib.ListN.{length};
+ghost use Rattle.regex.specs.Scan.{scanned};
+ghost use Rattle.regex.specs.TreeOf.{treeOf};
+ghost use Rattle.regex.specs.declared.ScanResult.the-variants.{Complete};
+ghost use Rattle.rule.specs.RuleAnswer.{ruleValues, ruleAnswer, sized, unused};
+ghost use Rattle.rule.specs.RuleMeaning.{RuleMeaning};
+
+// The most that a rule may have.
+const MOST_BYTES: usize = 255;
+
+const MOST_NODES: usize = 64;
+
+const MOST_SPECIALS: usize = 7;
+
+// What a text is: accepted with m and k, or refused, with the place where the refusal names one.
+pub enum Outcome {
+    Accepted(usize, usize),
+    EmptyText,
+    LongText,
+    ForeignByte(usize),
+    NoSentence(usize),
+    ManyNodes,
+    ManySpecials,
 }
 
-// A node record: the node's byte offset in the rule text, and its kind.
-pub struct Node {
-    pub offset: usize,
-    pub kind: Kind,
+// The reader's answer: on acceptance the first m records are the nodes', all others are `0` at offset 0.
+pub struct Answer {
+    pub outcome: Outcome,
+    pub nodes: [Node; 64],
 }
 
-// How far a scan has come: the open parentheses, whether an operand has just ended, and the nodes and special nodes so far.
-pub struct ScanState {
-    pub depth: usize,
-    pub ended: bool,
-    pub nodes: usize,
-    pub specials: usize,
+// Reads a rule text.
+pub fn read(text: &[u8]) -> Answer
+    ensures value { λ r. ⌜ ruleValues (r .outcome) (r .nodes) ≡ ruleAnswer (now (text .entry)) ⌝ }
+    ensures meaning { λ r. ⌜ RuleMeaning (now (text .entry)) (ruleValues (r .outcome) (r .nodes)) ⌝ }
+{
+    if text.len() == 0 {
+        return refused(Outcome::EmptyText);
+    }
+    if MOST_BYTES < text.len() {
+        return refused(Outcome::LongText);
+    }
+    let foreign = bytes::find_foreign(text);
+    if foreign < text.len() {
+        return refused(Outcome::ForeignByte(foreign));
+    }
+    match scan::scan(text) {
+        ScanResult::Broken(place) => refused(Outcome::NoSentence(place)),
+        ScanResult::Complete(m, k) => read_sentence(text, m, k),
+    }
 }
 
-// One byte's step of the scan: no sentence begins so, or the next state.
-pub enum ScanStep {
-    Stuck,
-    Next(ScanState),
+// A sentence of m nodes, k of them special: refused where there are too many, else read.
+fn read_sentence(text: &[u8], m: usize, k: usize) -> Answer
+    requires { ⌜ (length (now text) ≤ 255) × (scanned (now text) ≡ Complete m k) ⌝ }
+    ensures { λ r. ⌜ ruleValues (r .outcome) (r .nodes) ≡ sized (treeOf (now (text .entry))) ⌝ }
+{
+    if MOST_NODES < m {
+        return refused(Outcome::ManyNodes);
+    }
+    if MOST_SPECIALS < k {
+        return refused(Outcome::ManySpecials);
+    }
+    Answer {
+        outcome: Outcome::Accepted(m, k),
+        nodes: levels::read_text(text),
+    }
 }
 
-// What a scan finds: a sentence with its numbers of nodes and of special nodes, or the place where it breaks off.
-pub enum ScanResult {
-    Complete(usize, usize),
-    Broken(usize),
+// A refusal, in which no record is a node's.
+fn refused(outcome: Outcome) -> Answer
+    ensures { λ r. ⌜ r ≡ record { outcome = outcome; nodes = unused 64 } ⌝ }
+{
+    let none = Node {
+        offset: 0,
+        kind: Kind::Empty,
+    };
+    Answer {
+        outcome: outcome,
+        nodes: [none; 64],
+    }
 }

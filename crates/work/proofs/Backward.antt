@@ -5,8 +5,8 @@ use native.Mathlib.Omega.{arith}
 use lib.ListN.{length}
 use lib.Seq.{slice}
 use Rattle.event.specs.Event.{Word}
-use Rattle.rule.specs.Tree.{Tree, empty, epsilon, letter, union, intersection, concatenation, complement, star, size}
-use Rattle.rule.specs.Lang.{Power, Lang}
+use Rattle.regex.specs.Tree.{Tree, empty, epsilon, letter, union, intersection, concatenation, complement, star, size}
+use Rattle.regex.specs.Lang.{Power, Lang}
 use Rattle.work.specs.Span.{Obeys}
 use Rattle.work.specs.Walk.{entry, exit, Part, itself, union-left, union-right, concatenation-left, concatenation-right, star-inner, NodeMove}
 use Rattle.work.specs.Walk.{epsilon-through, letter-use, union-to-left, union-to-right, union-left-out, union-right-out, concatenation-in}

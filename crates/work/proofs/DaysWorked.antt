@@ -6,13 +6,14 @@ use mathlib.Core.Bool.{Bool, true, _&&_}
 use Prim.Native.Nat.{ℕ}
 use lib.Dec.{T}
 use Rattle.event.specs.Event.{isEvent}
-use Rattle.rule.specs.Accept.{accepts}
-use Rattle.rule.specs.Parse.{parse}
-use Rattle.rule.specs.TreeOf.{treeOf}
-use Rattle.rule.specs.Scan.{scanFrom, isSentence}
+use Rattle.event.specs.Text.{bytes}
+use Rattle.regex.specs.Accept.{accepts}
+use Rattle.regex.specs.Parse.{parse}
+use Rattle.regex.specs.TreeOf.{treeOf}
+use Rattle.regex.specs.Scan.{scanFrom, isSentence}
 use Rattle.work.specs.Spans.{obeying}
 use Rattle.work.specs.Count.{fullCount}
-use Rattle.work.specs.KnownDays.{bytes, Day, days}
+use Rattle.work.specs.KnownDays.{Day, days}
 
 -- a day's spans, and its count where it says one, worked out anew
 abbrev pub recount : Option ℕ → ℕ → Option ℕ

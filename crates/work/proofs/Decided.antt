@@ -8,13 +8,13 @@ use native.Mathlib.Decide.{decLe}
 use lib.Dec.{T, eqb, eqb→eq, eqb-refl}
 use lib.ListN.{length}
 use lib.Seq.{slice}
-use Rattle.rule.specs.Tree.{Tree}
+use Rattle.regex.specs.Tree.{Tree}
 use Rattle.event.specs.Event.{Word}
-use Rattle.rule.specs.Accept.{accepts}
+use Rattle.regex.specs.Accept.{accepts}
 use Rattle.work.proofs.At.{Exit}
 use Rattle.work.specs.Count.{anyTo, exits}
 use Rattle.event.proofs.Tests.{and-split, and-join, or-split, or-left, or-right}
-use Rattle.rule.proofs.LangDecided.{decides}
+use Rattle.regex.proofs.LangDecided.{decides}
 
 -- F decides E among the numbers of the word
 abbrev pub DecidedBy : Word → (ℕ → Bool) → (ℕ → Type 0) → Type 0

@@ -5,7 +5,7 @@ use Prim.Native.Nat.{ℕ, _+_, _≤_}
 use native.Mathlib.Omega.{arith}
 use lib.ListN.{length}
 use Rattle.event.specs.Event.{Word}
-use Rattle.rule.specs.Tree.{Tree, epsilon, letter, union, intersection, concatenation, complement, star, size}
+use Rattle.regex.specs.Tree.{Tree, epsilon, letter, union, intersection, concatenation, complement, star, size}
 use Rattle.work.specs.Walk.{exit, Part, itself, union-left, union-right, intersection-left, intersection-right, concatenation-left}
 use Rattle.work.specs.Walk.{concatenation-right, complement-inner, star-inner, NodeMove, epsilon-through, letter-use, union-to-left}
 use Rattle.work.specs.Walk.{union-to-right, union-left-out, union-right-out, concatenation-in, concatenation-over, concatenation-out, star-in}

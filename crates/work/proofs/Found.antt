@@ -11,9 +11,9 @@ use Rattle.bits.proofs.Tally.{tallyBelow, tally-same, tally-none, tally-add}
 use Rattle.bits.proofs.Packed.{run-ones}
 use Rattle.event.specs.Event.{Word}
 use Rattle.event.proofs.Tests.{same-test}
-use Rattle.rule.specs.Tree.{Tree}
-use Rattle.rule.specs.Accept.{accepts}
-use Rattle.rule.proofs.LangDecided.{decides}
+use Rattle.regex.specs.Tree.{Tree}
+use Rattle.regex.specs.Accept.{accepts}
+use Rattle.regex.proofs.LangDecided.{decides}
 use Rattle.work.specs.Span.{Obeys}
 use Rattle.work.specs.SizeOf.{SizeOf}
 use Rattle.work.specs.Spans.{Spans, listIf, fromStart, fromStarts, obeying}

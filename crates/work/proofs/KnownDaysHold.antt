@@ -5,13 +5,14 @@ use mathlib.Core.Option.{Option, none, some}
 use Prim.Native.Nat.{ℕ}
 use lib.Dec.{T}
 use Rattle.event.specs.Event.{Word}
+use Rattle.event.specs.Text.{bytes}
 use Rattle.event.proofs.Tests.{and-split}
-use Rattle.rule.specs.Tree.{Tree}
-use Rattle.rule.specs.TreeOf.{treeOf}
-use Rattle.rule.specs.Scan.{isSentence}
-use Rattle.rule.proofs.OneReading.{sentence-reads}
+use Rattle.regex.specs.Tree.{Tree}
+use Rattle.regex.specs.TreeOf.{treeOf}
+use Rattle.regex.specs.Scan.{isSentence}
+use Rattle.regex.proofs.OneReading.{sentence-reads}
 use Rattle.work.specs.Count.{fullCount}
-use Rattle.work.specs.KnownDays.{bytes, Day, days, Counted, Right, AllRight, KnownDays}
+use Rattle.work.specs.KnownDays.{Day, days, Counted, Right, AllRight, KnownDays}
 use Rattle.work.proofs.DaysWorked.{recount, worked, sentences, days-sentences, days-worked}
 use Rattle.work.proofs.Listed.{listed}
 use Rattle.work.proofs.WorkSize.{collection-size}

@@ -10,9 +10,9 @@ use lib.Dec.{T}
 use lib.ListN.{length}
 use lib.Seq.{slice}
 use Rattle.event.specs.Event.{Word}
-use Rattle.rule.specs.Tree.{Tree}
-use Rattle.rule.specs.Accept.{accepts}
-use Rattle.rule.proofs.LangDecided.{decides}
+use Rattle.regex.specs.Tree.{Tree}
+use Rattle.regex.specs.Accept.{accepts}
+use Rattle.regex.proofs.LangDecided.{decides}
 use Rattle.work.specs.Span.{Obeys}
 use Rattle.work.specs.SizeOf.{Once, SizeOf}
 use Rattle.work.specs.Spans.{Spans, listIf, fromStart, fromStarts, obeying, Before, InOrder}

@@ -1,15 +1,15 @@
 -- Every state of a rule has one owner. Assumes nothing.
-use mathlib.Core.Path.{_≡_, refl, sym, ap, subst, _∙_}
+use mathlib.Core.Path.{_≡_, refl, sym, ap, _∙_}
 use mathlib.Core.Logic.{_⊎_, inl, inr, ⊎-elim}
-use mathlib.Core.Bool.{Bool, true, false, cond}
+use mathlib.Core.Bool.{cond}
 use Prim.Native.Nat.{ℕ, suc, _+_, _*_, _/_, _%_, _≤_, _<_}
 use native.Mathlib.Omega.{arith}
 use native.Mathlib.Decide.{decLt}
 use native.Mathlib.Nat.{eq-or-lt-of-le}
 use lib.Dec.{ltb}
 use borrow.Author.Tests.{lt-ltb, le-ltb}
-use Rattle.rule.specs.Tree.{Tree, empty, epsilon, letter, union, intersection, concatenation, complement, star, below, size}
-use Rattle.work.specs.Walk.{entry, exit, Owner, whole, special, Owns, of-rule, of-union-left, of-union-right, of-concatenation-left}
+use Rattle.regex.specs.Tree.{Tree, empty, epsilon, letter, union, intersection, concatenation, complement, star, below, size}
+use Rattle.work.specs.Walk.{Owner, whole, special, Owns, of-rule, of-union-left, of-union-right, of-concatenation-left}
 use Rattle.work.specs.Walk.{of-concatenation-right, of-star, of-intersection-left, of-intersection-right, of-complement, StateOf}
 
 -- the owner of a node z: that of the side that has it, or u where z is the root

@@ -7,9 +7,9 @@ use Prim.Native.Nat.{ℕ, suc, _+_, _≤_}
 use native.Mathlib.Omega.{arith}
 use lib.Dec.{T}
 use lib.ListN.{length, length-append}
-use Rattle.rule.specs.Tree.{Tree, empty, epsilon, letter, union, intersection, concatenation, complement, star, offset, size, isSpecial}
-use Rattle.rule.specs.Grammar.{Level, Alt, Reads, alt-conj, alt-bar, conj-seq, conj-amp, seq-pre, seq-more, pre-post, pre-bang, post-atom, post-star}
-use Rattle.rule.specs.Grammar.{atom-letter, atom-empty, atom-epsilon, atom-group}
+use Rattle.regex.specs.Tree.{Tree, empty, epsilon, letter, union, intersection, concatenation, complement, star, offset, size, isSpecial}
+use Rattle.regex.specs.Grammar.{Level, Alt, Reads, alt-conj, alt-bar, conj-seq, conj-amp, seq-pre, seq-more, pre-post, pre-bang, post-atom, post-star}
+use Rattle.regex.specs.Grammar.{atom-letter, atom-empty, atom-epsilon, atom-group}
 use Rattle.work.specs.Walk.{Part, itself, union-left, union-right, intersection-left, intersection-right, concatenation-left}
 use Rattle.work.specs.Walk.{concatenation-right, complement-inner, star-inner}
 use Rattle.work.specs.Table.{SpecialPart, specialParts, Rising}

@@ -5,7 +5,7 @@ use Prim.Native.Nat.{ℕ, _+_, _*_, _≤_, _<_}
 use native.Mathlib.Omega.{arith}
 use lib.ListN.{length}
 use Rattle.event.specs.Event.{Word}
-use Rattle.rule.specs.Tree.{Tree, empty, epsilon, letter, union, intersection, concatenation, complement, star, below, size}
+use Rattle.regex.specs.Tree.{Tree, empty, epsilon, letter, union, intersection, concatenation, complement, star, below, size}
 use Rattle.work.specs.Span.{Obeys}
 use Rattle.work.specs.Walk.{entry, exit, Part, itself, union-left, union-right, intersection-left, intersection-right, concatenation-left}
 use Rattle.work.specs.Walk.{concatenation-right, complement-inner, star-inner, NodeMove, RuleMove, Owner, whole, special, Begins, begin-rule}

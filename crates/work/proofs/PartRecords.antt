@@ -5,10 +5,10 @@ use Prim.Native.Nat.{ℕ, _+_}
 use native.Mathlib.Omega.{arith}
 use lib.ListN.{length, drop, length-append}
 use lib.Seq.{slice, take-at, drop-at}
-use Rattle.rule.specs.declared.Kind.the-variants.{Union, Intersection, Concatenation, Complement, Star}
-use Rattle.rule.specs.declared.Node.{Node}
-use Rattle.rule.specs.Tree.{Tree, size, nodeRecord, records}
-use Rattle.rule.proofs.RecordLaws.{records-length}
+use Rattle.regex.specs.declared.Kind.the-variants.{Union, Intersection, Concatenation, Complement, Star}
+use Rattle.regex.specs.declared.Node.{Node}
+use Rattle.regex.specs.Tree.{Tree, size, nodeRecord, records}
+use Rattle.regex.proofs.RecordLaws.{records-length}
 use Rattle.work.specs.Walk.{Part, itself, union-left, union-right, intersection-left, intersection-right, concatenation-left}
 use Rattle.work.specs.Walk.{concatenation-right, complement-inner, star-inner}
 

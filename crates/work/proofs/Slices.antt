@@ -5,7 +5,7 @@ use Prim.Native.Nat.{ℕ, suc, _+_, _-_, _≤_, _<_}
 use native.Mathlib.Omega.{arith}
 use lib.ListN.{length, getD, take, drop, length-append, take-append-drop}
 use lib.Seq.{slice, slice-empty, slice-cons, length-slice, take-take, length-take-le, drop-append-le, take-at, drop-at}
-use Rattle.rule.specs.Tree.{Tree, empty, epsilon, letter, concatenation, star}
+use Rattle.regex.specs.Tree.{Tree, epsilon, letter, concatenation, star}
 use Rattle.event.specs.Event.{Word}
 use Rattle.work.specs.Span.{Obeys}
 

@@ -12,9 +12,9 @@ use Rattle.bits.specs.Bit.{bitAt}
 use Rattle.bits.proofs.Packed.{run-length, run-bit, bit-front, bit-behind}
 use Rattle.event.specs.Event.{Word}
 use Rattle.event.proofs.Tests.{and-split, and-join, T-of, of-T}
-use Rattle.rule.specs.Tree.{Tree, empty, epsilon, letter, union, intersection, concatenation, complement, star, specials}
-use Rattle.rule.specs.Accept.{accepts}
-use Rattle.rule.proofs.LangDecided.{decides}
+use Rattle.regex.specs.Tree.{Tree, empty, epsilon, letter, union, intersection, concatenation, complement, star, specials}
+use Rattle.regex.specs.Accept.{accepts}
+use Rattle.regex.proofs.LangDecided.{decides}
 use Rattle.work.specs.Span.{Obeys}
 use Rattle.work.specs.Table.{obeys, position, startOf, endOf, blockLength, HoldsBlock, block, specialParts, blocks, table, needOf}
 

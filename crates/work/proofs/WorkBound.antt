@@ -7,9 +7,9 @@ use native.Mathlib.Decide.{decLe}
 use lib.Dec.{T, eqb, eqb→eq}
 use lib.ListN.{length}
 use lib.Seq.{slice}
-use Rattle.rule.specs.Tree.{Tree, empty, epsilon, letter, union, intersection, concatenation, complement, star, below, size}
+use Rattle.regex.specs.Tree.{Tree, empty, epsilon, letter, union, intersection, concatenation, complement, star, size}
 use Rattle.event.specs.Event.{Word}
-use Rattle.rule.specs.Accept.{accepts}
+use Rattle.regex.specs.Accept.{accepts}
 use Rattle.work.specs.Count.{sumTo, tallyTo, exits, atRoot, belowRoot, places, walks, specialWalks, fullCount}
 use Rattle.bits.specs.Bit.{indicator}
 use Rattle.event.proofs.Tests.{and-split}

@@ -7,8 +7,8 @@ use lib.ListN.{length}
 use lib.Seq.{slice}
 use Rattle.bits.specs.Bit.{indicator}
 use Rattle.event.specs.Event.{Word}
-use Rattle.rule.specs.Tree.{Tree, empty, epsilon, letter, union, intersection, concatenation, complement, star}
-use Rattle.rule.specs.Accept.{accepts}
+use Rattle.regex.specs.Tree.{Tree, empty, epsilon, letter, union, intersection, concatenation, complement, star}
+use Rattle.regex.specs.Accept.{accepts}
 
 -- over the numbers 0 to k: whether some passes, the sum of f, and how many pass
 abbrev pub anyTo : ℕ → (ℕ → Bool) → Bool

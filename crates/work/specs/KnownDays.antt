@@ -4,21 +4,15 @@ use mathlib.Core.Logic.{_↔_}
 use mathlib.Core.List.{List, [], _∷_, List·Memᴰ}
 use mathlib.Core.Option.{Option, none, some}
 use Prim.Native.Nat.{ℕ}
-use Prim.Native.Char.{code}
 use Prim.Native.String.{String}
-use Prim.Native.String as text
 use Rattle.event.specs.Event.{Word}
-use Rattle.rule.specs.Tree.{Tree}
-use Rattle.rule.specs.Grammar.{Alt, Reads}
+use Rattle.event.specs.Text.{bytes}
+use Rattle.regex.specs.Tree.{Tree}
+use Rattle.regex.specs.Grammar.{Alt, Reads}
 use Rattle.work.specs.Span.{Obeys}
 use Rattle.work.specs.Spans.{Spans}
 use Rattle.work.specs.SizeOf.{SizeOf}
 use Rattle.work.specs.Walk.{Collection}
-
--- the bytes of a quoted text of ASCII characters
-abbrev pub bytes : String → List ℕ
-bytes text.[] = []
-bytes (text._∷_ c s) = code c ∷ bytes s
 
 pub record Day : Type 0 where
   pub rule : String

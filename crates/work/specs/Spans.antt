@@ -7,8 +7,8 @@ use Prim.Native.Nat.{ℕ, zero, suc, _<_}
 use lib.ListN.{length}
 use lib.Seq.{slice}
 use Rattle.event.specs.Event.{Word}
-use Rattle.rule.specs.Tree.{Tree}
-use Rattle.rule.specs.Accept.{accepts}
+use Rattle.regex.specs.Tree.{Tree}
+use Rattle.regex.specs.Accept.{accepts}
 
 abbrev pub Spans : Type 0
 Spans = List (ℕ × ℕ)

@@ -8,8 +8,8 @@ use lib.ListN.{length}
 use lib.Seq.{slice}
 use Rattle.bits.specs.Bit.{bitAt, onesOf, packedRun}
 use Rattle.event.specs.Event.{Word}
-use Rattle.rule.specs.Tree.{Tree, empty, epsilon, letter, union, intersection, concatenation, complement, star, offset, isSpecial}
-use Rattle.rule.specs.Accept.{accepts}
+use Rattle.regex.specs.Tree.{Tree, empty, epsilon, letter, union, intersection, concatenation, complement, star, offset, isSpecial}
+use Rattle.regex.specs.Accept.{accepts}
 use Rattle.work.specs.Span.{Obeys}
 use Rattle.work.specs.Walk.{Part}
 

@@ -4,7 +4,7 @@ use mathlib.Core.Logic.{_⊎_}
 use Prim.Native.Nat.{ℕ, suc, _+_, _*_, _≤_, _<_}
 use lib.ListN.{length, getD}
 use Rattle.event.specs.Event.{Word}
-use Rattle.rule.specs.Tree.{Tree, epsilon, letter, union, intersection, concatenation, complement, star, below, size}
+use Rattle.regex.specs.Tree.{Tree, epsilon, letter, union, intersection, concatenation, complement, star, below, size}
 use Rattle.work.specs.Span.{Obeys}
 
 -- "two states for every node, an entry and an exit": 2y and 2y + 1 for the node with the y-th record.

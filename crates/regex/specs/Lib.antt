@@ -1,0 +1,10 @@
+-- What a rule text is and means: the definitions to believe. Their laws stand in proofs/.
+pub mod Tree
+pub mod Grammar
+pub mod Lang
+-- The same by computation.
+pub mod Accept
+pub mod Bytes
+pub mod Parse
+pub mod TreeOf
+pub mod Scan

@@ -1,0 +1,40 @@
+-- What the rule reader's answer says of a text, by the grammar: document 01's row "Rule text". Assumes nothing.
+-- That `ruleAnswer` is the one answer which says so is `answer-means` and `answer-is` in proofs/Answered.
+use Prim.Native.Nat.{ℕ, _≤_, _<_}
+use mathlib.Core.Path.{_≡_}
+use mathlib.Core.List.{List}
+use mathlib.Core.Bool.{true, false}
+use lib.ListN.{length, getD}
+use Rattle.regex.specs.Tree.{Tree, size, specials}
+use Rattle.regex.specs.Grammar.{Alt, Reads, Sentence, Longest}
+use Rattle.rule.specs.RuleAnswer.{RuleAnswer, isRuleByte, refusal, acceptance}
+
+-- 01: "a text of 1 to 255 bytes"
+abbrev pub FitsLength : List ℕ → Type 0
+FitsLength s = (1 ≤ length s) × (length s ≤ 255)
+
+-- every byte before the n-th is in the list
+abbrev pub Listed : List ℕ → ℕ → Type 0
+Listed s n = (i : ℕ) → i < n → isRuleByte (getD s i 0) ≡ true
+
+-- a text that the numbers 1 to 3 do not refuse; whether it is a sentence is not said
+pub record Legal (s : List ℕ) : Type 0 where
+  pub fits : FitsLength s
+  pub listed : Listed s (length s)
+
+-- one constructor for each number: what holds of the text, and the whole answer
+pub data RuleMeaning (s : List ℕ) : RuleAnswer → Type 0 where
+  -- "1: empty."
+  empty-text : length s ≡ 0 → RuleMeaning s (refusal 1 0)
+  -- "2: over 255 bytes."
+  long-text : 255 < length s → RuleMeaning s (refusal 2 0)
+  -- "3: a byte outside the list; place is its offset, the first one's."
+  foreign-byte : {n : ℕ} → FitsLength s → n < length s → Listed s n → isRuleByte (getD s n 0) ≡ false → RuleMeaning s (refusal 3 n)
+  -- "4: not a sentence; place is the length of the longest beginning that some sentence of any length also has."
+  no-sentence : {n : ℕ} → Legal s → (Sentence s → ⊥) → Longest s n → RuleMeaning s (refusal 4 n)
+  -- "5: m over 64."
+  many-nodes : {t : Tree} → Legal s → Reads Alt 0 s t → 64 < size t → RuleMeaning s (refusal 5 0)
+  -- "6: k over 7"
+  many-specials : {t : Tree} → Legal s → Reads Alt 0 s t → size t ≤ 64 → 7 < specials t → RuleMeaning s (refusal 6 0)
+  -- accepted: the grammar reads the text as a tree t, and m, k and the records are t's
+  accepted : {t : Tree} → Legal s → Reads Alt 0 s t → size t ≤ 64 → specials t ≤ 7 → RuleMeaning s (acceptance t)
