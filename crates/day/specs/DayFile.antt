@@ -1,0 +1,74 @@
+-- The day file: what a line is, and what good lines are. Assumes nothing.
+use Prim.Native.Nat.{ℕ, _+_, _-_, _*_, _≤_}
+use mathlib.Core.Path.{_≡_}
+use mathlib.Core.Bool.{Bool, _&&_}
+use mathlib.Core.List.{List, [], _∷_, _++_}
+use lib.Dec.{T, leb}
+use lib.ListN.{length, getD}
+use Rattle.event.specs.Event.{isEvent}
+
+-- 01, The day file: "is at most 86,399"
+abbrev pub lastSecond : ℕ
+lastSecond = 86399
+
+-- 01: "`E`", the first field of an event's line
+abbrev pub eventTag : ℕ
+eventTag = 69
+
+-- one record of a day file: its second and its letter
+pub record DayEvent : Type 0 where
+  pub second : ℕ
+  pub letter : ℕ
+
+abbrev pub secondOf : DayEvent → ℕ
+secondOf e = e .second
+
+abbrev pub letterOf : DayEvent → ℕ
+letterOf e = e .letter
+
+-- decimal digits, and the number that a row of them writes after those that wrote x
+abbrev pub isDigit : ℕ → Bool
+isDigit b = leb 48 b && leb b 57
+
+abbrev pub AllDigits : List ℕ → Type 0
+AllDigits [] = Unit {0}
+AllDigits (b ∷ ds) = T (isDigit b) × AllDigits ds
+
+abbrev pub valueFrom : ℕ → List ℕ → ℕ
+valueFrom x [] = x
+valueFrom x (b ∷ ds) = valueFrom (x * 10 + (b - 48)) ds
+
+abbrev pub valueOf : List ℕ → ℕ
+valueOf ds = valueFrom 0 ds
+
+-- 01: "The second has 1 to 5 digits, no leading zero except `0` itself"
+pub record Decimal (ds : List ℕ) (x : ℕ) : Type 0 where
+  pub some : 1 ≤ length ds
+  pub few : length ds ≤ 5
+  pub digits : AllDigits ds
+  pub leading : getD ds 0 0 ≡ 48 → length ds ≡ 1
+  pub value : valueOf ds ≡ x
+
+-- 01: "One record a line, fields parted by one tab, each line ended by a newline (byte 10): `E`, the second of the day in decimal,
+-- the event letter."
+abbrev pub lineText : List ℕ → ℕ → List ℕ
+lineText ds c = eventTag ∷ 9 ∷ ds ++ 9 ∷ c ∷ 10 ∷ []
+
+-- the text s begins with a line of the form, that of the event e, and rest follows
+pub record LineAt (s : List ℕ) (e : DayEvent) (rest : List ℕ) : Type 0 where
+  pub digits : List ℕ
+  pub decimal : Decimal digits (e .second)
+  pub event : T (isEvent (e .letter))
+  pub text : s ≡ lineText digits (e .letter) ++ rest
+
+-- the text s begins with good lines, those of the events l, and rest follows; y is the second of the line before them.
+-- 01: the second "is at most 86,399 and never below the line before; equal seconds are fine"
+pub data Lines : ℕ → List ℕ → List DayEvent → List ℕ → Type 0 where
+  done : {y : ℕ} {s : List ℕ} → Lines y s [] s
+  more : {y : ℕ} {s mid rest : List ℕ} {e : DayEvent} {l : List DayEvent} → LineAt s e mid → y ≤ e .second → e .second ≤ lastSecond
+      → Lines (e .second) mid l rest → Lines y s (e ∷ l) rest
+
+-- the second that a line after l may not fall below: that of l's last line, or y where l has none
+abbrev pub secondAfter : ℕ → List DayEvent → ℕ
+secondAfter y [] = y
+secondAfter y (e ∷ l) = secondAfter (e .second) l

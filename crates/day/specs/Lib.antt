@@ -1,0 +1,6 @@
+-- What a day file is, what the day reader answers, as values and computed, and what the answer says by the form of the lines.
+pub mod DayFile
+pub mod DayAnswer
+pub mod DayMeaning
+-- The lines by computation.
+pub mod DayLines
