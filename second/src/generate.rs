@@ -1,10 +1,16 @@
-//! Random trees, sentences and words, for the random cases and the tests.
+//! Random trees, sentences, words and bytes, for the random cases and the tests.
 
 use crate::random::Random;
 use crate::rule::Kind;
 
 /// The small alphabets of random cases; with few letters more words obey.
 const ALPHABETS: [&[u8]; 4] = [b"ab", b"abc", b"az", b"bmz"];
+
+/// The bytes of random texts: mostly listed ones, operators more often than their share.
+const LISTED: &[u8] = b"aabcz01||&&!!**(())";
+
+/// Printable bytes that no rule lists, most of them next to a listed one.
+const FOREIGN: &[u8] = b"@`{/2 ;'+,}~\"%^_#$.?";
 
 /// The most that a random sentence may have.
 pub struct Bounds {
@@ -22,6 +28,28 @@ pub fn alphabet(random: &mut Random) -> &'static [u8] {
 pub fn word(random: &mut Random, letters: &[u8], most: usize) -> Vec<u8> {
     let n = random.below(most + 1);
     (0..n).map(|_| random.pick(letters)).collect()
+}
+
+/// A listed byte, or now and then a foreign one.
+pub fn random_byte(random: &mut Random) -> u8 {
+    let foreign = random.one_in(40);
+    random.pick(if foreign { FOREIGN } else { LISTED })
+}
+
+/// Any byte at all.
+pub fn any_byte(random: &mut Random) -> u8 {
+    random.below(256) as u8
+}
+
+/// Puts in the byte, puts it in another's place or takes one out, and stays within so many bytes.
+pub fn change_byte(random: &mut Random, text: &mut Vec<u8>, byte: u8, most_bytes: usize) {
+    let at = random.below(text.len() + 1);
+    match random.below(3) {
+        0 if text.len() < most_bytes => text.insert(at, byte),
+        1 if at < text.len() => drop(text.remove(at)),
+        _ if at < text.len() => text[at] = byte,
+        _ => {}
+    }
 }
 
 /// A random sentence within the bounds.

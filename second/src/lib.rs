@@ -1,15 +1,25 @@
 //! The second program: an independent reference implementation of document 01,
 //! written from documents 01 and 004 alone, to be compared with the program that is proved.
 
+pub mod answers;
 pub mod cases;
 pub mod day;
+pub mod day_edges;
+pub mod draw;
+pub mod edges;
 pub mod generate;
 pub mod job;
 pub mod judge;
 pub mod language;
 pub mod limits;
+pub mod lines;
+pub mod printed;
 pub mod random;
+pub mod random_days;
+pub mod random_rules;
 pub mod refusal;
 pub mod rule;
+pub mod rule_edges;
+pub mod stream;
 pub mod table;
 pub mod work;

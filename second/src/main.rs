@@ -1,17 +1,20 @@
-//! The binary `second`: the program of document 01, and two commands that print random cases.
+//! The binary `second`: the program of document 01, and the commands that print cases or answers.
 
 use std::env;
 use std::fs::File;
-use std::io::{self, BufWriter, Write};
+use std::io::{self, BufWriter, Read, Write};
 use std::os::fd::AsFd;
 use std::process::ExitCode;
 
 use second::random::Random;
-use second::{cases, job};
+use second::{answers, cases, draw, edges, job, stream};
 
 const USAGE: &str = "usage: second < JOB
        second cases SEED COUNT MAX_RULE_BYTES MAX_WORD
-       second readings SEED COUNT MAX_BYTES";
+       second readings SEED COUNT MAX_BYTES
+       second answers < CASES
+       second edges
+       second draw SEED COUNT";
 
 fn main() -> io::Result<ExitCode> {
     let arguments: Vec<String> = env::args().skip(1).collect();
@@ -30,6 +33,11 @@ fn main() -> io::Result<ExitCode> {
             print_lines(seed, count, |random| {
                 cases::reading_line(random, most_bytes)
             })?;
+        }
+        ("answers", Some([])) => return answer_cases(),
+        ("edges", Some([])) => print_edges()?,
+        ("draw", Some(&[seed, count])) => {
+            io::stdout().write_all(&draw::stream(seed as u64, count))?;
         }
         _ => {
             eprintln!("{USAGE}");
@@ -57,6 +65,33 @@ fn print_lines(
     let mut output = BufWriter::new(io::stdout().lock());
     for _ in 0..count {
         output.write_all(line(&mut random).as_bytes())?;
+    }
+    output.flush()
+}
+
+/// Answers a stream of cases from standard input; fails where it is malformed or cut off.
+fn answer_cases() -> io::Result<ExitCode> {
+    let mut input = Vec::new();
+    io::stdin().lock().read_to_end(&mut input)?;
+    let (cases, rest) = stream::read(&input);
+    let mut output = BufWriter::new(io::stdout().lock());
+    for case in &cases {
+        output.write_all(answers::line(case).as_bytes())?;
+    }
+    output.flush()?;
+    if rest.is_empty() {
+        return Ok(ExitCode::SUCCESS);
+    }
+    let (count, at) = (cases.len(), input.len() - rest.len());
+    eprintln!("second: no whole case at byte {at} of the stream, after {count} cases");
+    Ok(ExitCode::FAILURE)
+}
+
+/// Prints the cases of document 01's edges.
+fn print_edges() -> io::Result<()> {
+    let mut output = BufWriter::new(io::stdout().lock());
+    for case in edges::all() {
+        output.write_all(&case.written())?;
     }
     output.flush()
 }

@@ -91,7 +91,7 @@ fn is_listed(byte: u8) -> bool {
 }
 
 /// Whether a byte is a node without sides.
-fn is_leaf(byte: u8) -> bool {
+pub fn is_leaf(byte: u8) -> bool {
     is_event(byte) || byte == b'0' || byte == b'1'
 }
 

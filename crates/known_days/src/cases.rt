@@ -1,0 +1,110 @@
+// Takes the cases apart.
+use crate::show::answer_day;
+use crate::show::answer_rule;
+ghost use Prim.Native.Nat.{_≤_};
+ghost use lib.ListN.{length};
+
+// A number in a text, and the offset behind its digits.
+struct Number {
+    value: usize,
+    end: usize,
+}
+
+fn digit_of(b: u8) -> usize
+    ensures { λ r. ⌜ r ≤ 255 ⌝ }
+{
+    if b < b'0' { 0 } else { (b - b'0') as usize }
+}
+
+// The number that begins at an offset; it stops at seven digits.
+fn number_at(s: &[u8], from: usize) -> Number
+    requires { ⌜ from ≤ length (now s) ⌝ }
+    ensures { λ r. ⌜ r .end ≤ length (now (s .entry)) ⌝ }
+{
+    let mut value: usize = 0;
+    for i in from..s.len() {
+        let b = s[i];
+        if b < b'0' || b'9' < b || 999999 < value {
+            return Number {
+                value: value,
+                end: i,
+            };
+        }
+        value = value * 10 + digit_of(b);
+    }
+    Number {
+        value: value,
+        end: s.len(),
+    }
+}
+
+// Answers a rule's case at the front, `rule LEN`, and gives its length; 0 where it is not whole.
+fn rule_case(s: &[u8]) -> usize {
+    if s.len() < 5 {
+        return 0;
+    }
+    let length = number_at(s, 5);
+    if s.len() <= length.value {
+        return 0;
+    }
+    let from = length.end + 1;
+    let to = from + length.value;
+    if s.len() <= to {
+        return 0;
+    }
+    answer_rule(&s[from..to]);
+    to + 1
+}
+
+// Answers a day's case at the front, `day LETTERS SECONDS LEN`, and gives its length; 0 where it is not whole.
+fn day_case(s: &[u8]) -> usize {
+    if s.len() < 4 {
+        return 0;
+    }
+    let letters = number_at(s, 4);
+    if s.len() <= letters.end {
+        return 0;
+    }
+    let seconds = number_at(s, letters.end + 1);
+    if s.len() <= seconds.end {
+        return 0;
+    }
+    let length = number_at(s, seconds.end + 1);
+    if s.len() <= length.value {
+        return 0;
+    }
+    let from = length.end + 1;
+    let to = from + length.value;
+    if s.len() <= to {
+        return 0;
+    }
+    answer_day(&s[from..to], letters.value, seconds.value);
+    to + 1
+}
+
+// Answers the case at the front and gives its length; 0 where it is not whole.
+fn answer_case(s: &[u8]) -> usize {
+    if s.len() == 0 {
+        return 0;
+    }
+    if s[0] == b'r' {
+        rule_case(s)
+    } else {
+        day_case(s)
+    }
+}
+
+// Answers the cases one after another, up to one that is not whole.
+pub fn answer_all(s: &[u8]) {
+    let mut at = 0;
+    while at < s.len() {
+        let used = answer_case(&s[at..]);
+        if used == 0 {
+            return;
+        }
+        if s.len() - at < used {
+            return;
+        }
+        at += used;
+    }
+}

@@ -1,0 +1,138 @@
+//! Random days for the command `draw`: good ones, damaged ones, and buffers that may be too short.
+
+use crate::generate::{any_byte, change_byte};
+use crate::limits::{LAST_SECOND, MAX_DAY_BYTES, MAX_DAY_LINES};
+use crate::lines::{empty_line, good_line, joined, Line, SECOND, WRONG};
+use crate::random::Random;
+use crate::stream::Case;
+
+/// How many seconds a day has.
+const DAY: usize = LAST_SECOND as usize + 1;
+
+/// The most lines of an ordinary random day.
+const FEW_LINES: usize = 20;
+
+/// A random day and random lengths of the buffers.
+pub fn case(random: &mut Random) -> Case {
+    let bytes = match random.below(50) {
+        0 => day_of_many_bytes(random),
+        1..=3 => arbitrary_bytes(random),
+        _ => day_of_lines(random),
+    };
+    let n = bytes.iter().filter(|&&byte| byte == b'\n').count();
+    let (letters, seconds) = buffer_lengths(random, n);
+    Case::Day {
+        letters,
+        seconds,
+        bytes,
+    }
+}
+
+/// Lines, often damaged, now and then with one byte of any value in them or cut off.
+fn day_of_lines(random: &mut Random) -> Vec<u8> {
+    let count = line_count(random);
+    let mut lines = good_lines(random, count);
+    for _ in 0..random.pick(&[0, 0, 0, 0, 1, 1, 1, 2]) {
+        damage(random, &mut lines);
+    }
+    let mut day = joined(&lines);
+    if random.one_in(16) {
+        let byte = any_byte(random);
+        change_byte(random, &mut day, byte, MAX_DAY_BYTES + 1);
+    }
+    if random.one_in(16) {
+        let length = random.below(day.len() + 1);
+        day.truncate(length);
+    }
+    day
+}
+
+/// How many lines: mostly a few, now and then up to or about as many as there may be.
+fn line_count(random: &mut Random) -> usize {
+    match random.below(48) {
+        0 => MAX_DAY_LINES - 3 + random.below(6),
+        1 => random.below(MAX_DAY_LINES + 1),
+        _ => random.below(FEW_LINES + 1),
+    }
+}
+
+/// So many good lines, their seconds from a wide or a narrow part of the day.
+fn good_lines(random: &mut Random, count: usize) -> Vec<Line> {
+    let (first, width) = match random.below(6) {
+        0 => (random.below(DAY), 1),
+        1 => (0, 12),
+        2 => (DAY - 10, 10),
+        3 => (9_990, 20),
+        _ => (0, DAY),
+    };
+    let mut seconds: Vec<usize> = (0..count).map(|_| first + random.below(width)).collect();
+    seconds.sort_unstable();
+    let line = |second| good_line(second, random_letter(random));
+    seconds.into_iter().map(line).collect()
+}
+
+/// Any letter.
+fn random_letter(random: &mut Random) -> u8 {
+    b'a' + random.below(26) as u8
+}
+
+/// Damages a line, mostly by a wrong part; a new second may be too late, too early or still good.
+fn damage(random: &mut Random, lines: &mut Vec<Line>) {
+    if lines.is_empty() {
+        return;
+    }
+    let at = random.below(lines.len());
+    let part = random.below(WRONG.len());
+    match random.below(10) {
+        0 => lines.insert(at, empty_line()),
+        1 | 2 => lines[at][SECOND] = random.below(DAY).to_string().into(),
+        3 => lines[at][SECOND] = (DAY - 2 + random.below(4)).to_string().into(),
+        4 => lines.swap(at, 0),
+        _ => lines[at][part] = random.pick(WRONG[part]).to_vec(),
+    }
+}
+
+/// A day of about as many bytes as there may be, of long lines or of short ones.
+fn day_of_many_bytes(random: &mut Random) -> Vec<u8> {
+    let second = random.pick(&[0, DAY - 1, DAY - 1]);
+    let mut lines = vec![good_line(second, random_letter(random)); MAX_DAY_BYTES / 6 + 1];
+    if random.one_in(3) {
+        damage(random, &mut lines);
+    }
+    let mut day = joined(&lines);
+    day.truncate(MAX_DAY_BYTES - 2 + random.below(5));
+    day
+}
+
+/// A few bytes: of any values, or of those that lines are made of.
+fn arbitrary_bytes(random: &mut Random) -> Vec<u8> {
+    let length = random.below(40);
+    if random.one_in(2) {
+        (0..length).map(|_| any_byte(random)).collect()
+    } else {
+        (0..length)
+            .map(|_| random.pick(b"EE\t\t019a\n\n"))
+            .collect()
+    }
+}
+
+/// Lengths of both buffers: mostly long enough for so many lines.
+fn buffer_lengths(random: &mut Random, n: usize) -> (usize, usize) {
+    if random.one_in(4) {
+        (any_length(random, n), any_length(random, n))
+    } else {
+        (n + random.below(4), n + random.below(4))
+    }
+}
+
+/// A length that may be too short for so many lines, or much longer.
+fn any_length(random: &mut Random, n: usize) -> usize {
+    match random.below(6) {
+        0 => 0,
+        1 => n.saturating_sub(1),
+        2 => n + 1,
+        3 => random.below(n + 1),
+        4 => n + random.below(60),
+        _ => n,
+    }
+}

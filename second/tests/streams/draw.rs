@@ -1,0 +1,203 @@
+//! The command `draw`: its size, that a seed fixes it, and that it comes to every limit.
+
+use crate::{answered, cases, check_answer, numbers, stream, Case};
+
+/// The seeds that the tests below draw from.
+const SEEDS: [usize; 8] = [1, 2, 3, 4, 5, 6, 7, 8];
+
+/// A stream as long as the limit lets it be.
+fn longest(seed: usize) -> Vec<u8> {
+    stream(&format!("draw {seed} 1000000"))
+}
+
+/// All cases of the seeds, with their answers.
+fn many() -> Vec<(Case, String)> {
+    let answered = |&seed: &usize| answered(&longest(seed));
+    SEEDS.iter().flat_map(answered).collect()
+}
+
+/// How many lines a day has ended.
+fn lines(case: &Case) -> usize {
+    case.bytes.iter().filter(|&&byte| byte == b'\n').count()
+}
+
+/// Whether the bytes have a part like this.
+fn has(bytes: &[u8], part: &[u8]) -> bool {
+    bytes.windows(part.len()).any(|window| window == part)
+}
+
+#[test]
+fn there_are_as_many_cases_as_asked_for() {
+    assert!(stream("draw 3 0").is_empty());
+    for count in [1, 2, 17, 60] {
+        assert_eq!(cases(&stream(&format!("draw 3 {count}"))).len(), count);
+    }
+}
+
+#[test]
+fn the_stream_ends_with_the_last_whole_case_that_fits() {
+    for seed in SEEDS {
+        let stream = longest(seed);
+        assert!(stream.len() <= 65_536);
+        // No case of these seeds takes more than 2,600 bytes.
+        assert!(stream.len() > 65_536 - 2_600, "{} bytes", stream.len());
+        let count = cases(&stream).len();
+        assert!(count > 150, "{count} cases");
+    }
+}
+
+#[test]
+fn a_seed_fixes_the_stream() {
+    assert_eq!(longest(1), longest(1));
+    assert_ne!(longest(1), longest(2));
+    let (short, long) = (stream("draw 9 40"), stream("draw 9 80"));
+    assert!(long.starts_with(&short) && long.len() > short.len());
+}
+
+#[test]
+fn every_case_has_a_sound_answer() {
+    for (case, line) in many() {
+        check_answer(&case, &line);
+    }
+}
+
+#[test]
+fn about_half_are_rules_and_both_are_often_accepted() {
+    let all = many();
+    let share = |meets: &dyn Fn(&Case, &str) -> bool| {
+        let met = all.iter().filter(|(case, line)| meets(case, line)).count();
+        100 * met / all.len()
+    };
+    let rules = share(&|case, _| case.is_rule());
+    assert!((40..=60).contains(&rules), "{rules} in a hundred");
+    let good_rules = share(&|_, line| line.starts_with("rule\t0\t"));
+    let good_days = share(&|_, line| line.starts_with("day\t0\t"));
+    assert!(good_rules >= 15, "{good_rules} in a hundred");
+    assert!(good_days >= 15, "{good_days} in a hundred");
+}
+
+#[test]
+fn every_number_of_both_readers_occurs() {
+    let times = numbers(&many());
+    for number in (0..=6).chain(11..=15) {
+        assert!(times[number] >= 3, "{number}: {} times", times[number]);
+    }
+}
+
+#[test]
+fn rules_come_to_their_limits() {
+    let all = many();
+    let rules: Vec<&(Case, String)> = all.iter().filter(|(case, _)| case.is_rule()).collect();
+    let has_field = |field: usize, value: &str| {
+        let is = |line: &str| line.split('\t').nth(field) == Some(value);
+        rules.iter().any(|(_, line)| is(line))
+    };
+    for m in ["1", "62", "63", "64"] {
+        assert!(has_field(5, m), "m {m}");
+    }
+    for k in ["1", "6", "7"] {
+        assert!(has_field(6, k), "k {k}");
+    }
+    let accepted = |line: &str| line.starts_with("rule\t0\t");
+    for length in [1, 100, 253, 254, 255] {
+        let mut rules = rules.iter();
+        let found = rules.any(|(case, line)| case.bytes.len() == length && accepted(line));
+        assert!(found, "{length} bytes");
+    }
+    for length in [0, 256, 257] {
+        assert!(rules.iter().any(|(case, _)| case.bytes.len() == length));
+    }
+    for run in [[b'('; 60], [b')'; 60], [b'!'; 60], [b'*'; 60]] {
+        assert!(rules.iter().any(|(case, _)| has(&case.bytes, &run)));
+    }
+    let mut seen = [false; 256];
+    for byte in rules.iter().flat_map(|(case, _)| &case.bytes) {
+        seen[usize::from(*byte)] = true;
+    }
+    assert!(seen.iter().all(|&seen| seen));
+}
+
+#[test]
+fn days_come_to_their_limits() {
+    let all = many();
+    let days: Vec<&(Case, String)> = all.iter().filter(|(case, _)| !case.is_rule()).collect();
+    let lengths: Vec<usize> = days.iter().map(|(case, _)| case.bytes.len()).collect();
+    for length in [0, 2_549, 2_550, 2_551] {
+        assert!(lengths.contains(&length), "{length} bytes");
+    }
+    let counts: Vec<usize> = days.iter().map(|(case, _)| lines(case)).collect();
+    for count in [19, 20, 253, 254, 255, 256] {
+        assert!(counts.contains(&count), "{count} lines");
+    }
+    for part in ["\t86399\t", "\t86400\t", "\t0\t", "\t9999\t", "\t10000\t"] {
+        assert!(days
+            .iter()
+            .any(|(case, _)| has(&case.bytes, part.as_bytes())));
+    }
+    for n in ["0", "1", "10", "20", "255"] {
+        let accepted = |line: &str| line.starts_with(&format!("day\t0\t0\t0\t0\t{n}\t"));
+        assert!(days.iter().any(|(_, line)| accepted(line)), "n {n}");
+    }
+}
+
+#[test]
+fn days_are_damaged_in_every_way() {
+    let all = many();
+    let damages: [&[u8]; 18] = [
+        b"\nF\t",
+        b"\ne\t",
+        b"\n E\t",
+        b"\t\t",
+        b"E\t\t",
+        b"\t00\t",
+        b"\t01\t",
+        b"\t000000\t",
+        b"\t123456\t",
+        b"\t100000\t",
+        b"\t+1\t",
+        b"\t-1\t",
+        b"\tx\t",
+        b"\tA\n",
+        b"\tab\n",
+        b"\t\n",
+        b"\r\n",
+        b"\n\n",
+    ];
+    for damage in damages {
+        let refused = |(case, line): &(Case, String)| {
+            line.starts_with("day\t12\t") && has(&case.bytes, damage)
+        };
+        assert!(all.iter().any(refused), "{}", damage.escape_ascii());
+    }
+}
+
+#[test]
+fn buffers_are_too_short_or_longer_or_unlike() {
+    let all = many();
+    let days: Vec<&Case> = all
+        .iter()
+        .map(|(case, _)| case)
+        .filter(|case| !case.is_rule())
+        .collect();
+    let some = |meets: &dyn Fn((usize, usize), usize) -> bool| {
+        days.iter().any(|case| meets(case.buffers(), lines(case)))
+    };
+    assert!(some(&|(letters, seconds), n| letters == 0
+        && seconds > n
+        && n > 3));
+    assert!(some(&|(letters, seconds), n| letters > n
+        && seconds == 0
+        && n > 3));
+    assert!(some(&|(letters, seconds), n| n > 0
+        && letters == n - 1
+        && seconds == n));
+    assert!(some(&|(letters, seconds), n| n > 0
+        && letters == n
+        && seconds == n - 1));
+    assert!(some(&|(letters, seconds), n| n > 9
+        && letters == n
+        && seconds == n));
+    assert!(some(
+        &|(letters, seconds), n| letters > n + 30 && seconds == n
+    ));
+}

@@ -1,0 +1,574 @@
+//! The command `edges`: answers that document 01 gives by hand, and that nothing is left out.
+
+use crate::{answered, check_answer, letters_after, numbers, seconds_after, stream, Case};
+
+/// The edges with their answers.
+fn edges() -> Vec<(Case, String)> {
+    answered(&stream("edges"))
+}
+
+/// The answer to a rule text; it must be among the edges.
+fn rule_answer(edges: &[(Case, String)], text: &[u8]) -> String {
+    let found = edges
+        .iter()
+        .find(|(case, _)| case.is_rule() && case.bytes == text);
+    let (_, line) = found.unwrap_or_else(|| panic!("no edge {}", text.escape_ascii()));
+    line.clone()
+}
+
+/// The answer to a day with such buffers; it must be among the edges.
+fn day_answer(edges: &[(Case, String)], day: &[u8], buffers: (usize, usize)) -> String {
+    let found = edges
+        .iter()
+        .find(|(case, _)| !case.is_rule() && case.bytes == day && case.buffers() == buffers);
+    let (_, line) = found.unwrap_or_else(|| panic!("no edge {}", day.escape_ascii()));
+    line.clone()
+}
+
+/// The answer to a day with buffers that are longer than n, and their lengths.
+fn answer_with_enough(edges: &[(Case, String)], day: &[u8]) -> (String, (usize, usize)) {
+    let newlines = day.iter().filter(|&&byte| byte == b'\n').count();
+    let buffers = (newlines + 1, newlines + 2);
+    (day_answer(edges, day, buffers), buffers)
+}
+
+/// Checks that the texts are refused with this number at these places.
+fn check_refused(number: usize, texts: &[(Vec<u8>, usize)]) {
+    let edges = edges();
+    for (text, place) in texts {
+        let expected = format!("rule\t{number}\t{place}\t0\t0\t0\t0\t-");
+        assert_eq!(
+            rule_answer(&edges, text),
+            expected,
+            "{}",
+            text.escape_ascii()
+        );
+    }
+}
+
+/// Checks m, k and the records of accepted texts.
+fn check_readings(readings: &[(&str, &str)]) {
+    let edges = edges();
+    for (text, reading) in readings {
+        let reading = reading.replace(' ', "\t");
+        let expected = format!("rule\t0\t0\t0\t0\t{reading}");
+        assert_eq!(rule_answer(&edges, text.as_bytes()), expected, "{text}");
+    }
+}
+
+/// Checks m and k of accepted texts.
+fn check_sizes(texts: &[(Vec<u8>, usize, usize)]) {
+    let edges = edges();
+    for (text, m, k) in texts {
+        let line = rule_answer(&edges, text);
+        let expected = format!("rule\t0\t0\t0\t0\t{m}\t{k}\t");
+        assert!(line.starts_with(&expected), "{}", text.escape_ascii());
+    }
+}
+
+/// Checks that the days, with buffers that are long enough, are refused like this.
+fn check_refused_days(days: &[(&[u8], usize, usize)]) {
+    let edges = edges();
+    for (day, number, place) in days {
+        let (line, buffers) = answer_with_enough(&edges, day);
+        let letters = letters_after(b"", buffers.0);
+        let seconds = seconds_after(&[], buffers.1);
+        let expected = format!("day\t{number}\t{place}\t0\t0\t0\t{letters}\t{seconds}");
+        assert_eq!(line, expected, "{}", day.escape_ascii());
+    }
+}
+
+/// Parts so many times over, one after another.
+fn text(parts: &[(&str, usize)]) -> Vec<u8> {
+    let parts = parts.iter().map(|(part, times)| part.repeat(*times));
+    parts.collect::<String>().into()
+}
+
+#[test]
+fn the_known_days_rules_are_read() {
+    check_readings(&[
+        ("1", "1 0 0:1"),
+        ("0", "1 0 0:0"),
+        ("a", "1 0 0:a"),
+        ("!a", "2 1 1:a;0:!"),
+        ("!0", "2 1 1:0;0:!"),
+        ("a*", "2 0 0:a;1:*"),
+        ("a&a", "3 1 0:a;2:a;1:&"),
+        (
+            "(a&ab)(bc|c)",
+            "11 1 1:a;3:a;4:b;4:.;2:&;7:b;8:c;8:.;10:c;9:|;6:.",
+        ),
+        (
+            "a(bc|c)&ab(bc|c)",
+            "17 1 0:a;2:b;3:c;3:.;5:c;4:|;1:.;8:a;9:b;9:.;11:b;12:c;12:.;14:c;13:|;10:.;7:&",
+        ),
+        ("!ab", "4 1 1:a;0:!;2:b;2:."),
+        ("!(ab)", "4 1 2:a;3:b;3:.;0:!"),
+        ("!a*", "3 1 1:a;2:*;0:!"),
+        ("1*", "2 0 0:1;1:*"),
+    ]);
+}
+
+#[test]
+fn example_1_is_read() {
+    let rule = "((ttt)*t&(tttt)*ttt)bt*".replace('t', "(a|b)");
+    // The three records of a t, and those of a t that is joined to what stands before it.
+    let t = |at: usize| format!("{}:a;{}:b;{}:|;", at + 1, at + 3, at + 2);
+    let joined = |at: usize| format!("{}{at}:.;", t(at));
+    let left = [t(2), joined(7), joined(12), "18:*;".into(), joined(19)].concat();
+    let first = [t(26), joined(31), joined(36), joined(41), "47:*;".into()].concat();
+    let right = [first, joined(48), joined(53), joined(58)].concat();
+    let tail = format!("24:&;64:b;64:.;{}70:*;65:.", t(65));
+    check_readings(&[(&rule, &format!("52 1 {left}{right}{tail}"))]);
+}
+
+#[test]
+fn tightness_and_offsets_are_as_document_01_says() {
+    check_readings(&[
+        ("a(b)", "3 0 0:a;2:b;1:."),
+        ("(a)b", "3 0 1:a;3:b;3:."),
+        ("(a)(b)", "3 0 1:a;4:b;3:."),
+        ("a((b))*", "4 0 0:a;3:b;6:*;1:."),
+        ("a!b", "4 1 0:a;2:b;1:!;1:."),
+        ("!(a)b", "4 1 2:a;0:!;4:b;4:."),
+        ("(!a)b", "4 1 2:a;1:!;4:b;4:."),
+        ("!(a*)", "3 1 2:a;3:*;0:!"),
+        ("(!a)*", "3 1 2:a;1:!;4:*"),
+        ("!!a**", "5 2 2:a;3:*;4:*;1:!;0:!"),
+        ("a*b*", "5 0 0:a;1:*;2:b;3:*;2:."),
+        ("(a)*!!b", "6 2 1:a;3:*;6:b;5:!;4:!;4:."),
+        ("(a|b)&!c*d", "9 2 1:a;3:b;2:|;7:c;8:*;6:!;9:d;9:.;5:&"),
+        ("a|b&c", "5 1 0:a;2:b;4:c;3:&;1:|"),
+        ("a&b|c", "5 1 0:a;2:b;1:&;4:c;3:|"),
+        ("ab|c", "5 0 0:a;1:b;1:.;3:c;2:|"),
+        ("a&bc", "5 1 0:a;2:b;3:c;3:.;1:&"),
+        ("((((a))))", "1 0 4:a"),
+    ]);
+}
+
+#[test]
+fn two_sides_group_from_the_left() {
+    check_readings(&[
+        ("abc", "5 0 0:a;1:b;1:.;2:c;2:."),
+        ("a(bc)", "5 0 0:a;2:b;3:c;3:.;1:."),
+        ("(ab)c", "5 0 1:a;2:b;2:.;4:c;4:."),
+        ("a|b|c", "5 0 0:a;2:b;1:|;4:c;3:|"),
+        ("a|(b|c)", "5 0 0:a;3:b;5:c;4:|;1:|"),
+        ("a&b&c", "5 2 0:a;2:b;1:&;4:c;3:&"),
+        ("a&(b&c)", "5 2 0:a;3:b;5:c;4:&;1:&"),
+    ]);
+}
+
+#[test]
+fn an_empty_text_is_1_and_over_255_bytes_is_2() {
+    check_refused(1, &[(vec![], 0)]);
+    let texts = [
+        text(&[("a", 256)]),
+        text(&[("a", 257)]),
+        text(&[("a", 300)]),
+        text(&[("(", 256)]),
+        text(&[(")", 256)]),
+        text(&[("A", 256)]),
+        text(&[("a", 255), ("A", 1)]),
+        text(&[("(", 127), ("a", 1), (")", 127), ("*", 1)]),
+        text(&[("(", 128), ("a", 1), (")", 128)]),
+    ];
+    check_refused(2, &texts.map(|text| (text, 0)));
+}
+
+#[test]
+fn a_foreign_byte_is_3_at_the_first_one() {
+    let texts: [(&[u8], usize); 10] = [
+        (b"A", 0),
+        (b"aBcD", 1),
+        (b"ab\n", 2),
+        (b"ab\0", 2),
+        (b"\xc3\xa4", 0),
+        (b")A", 1),
+        (b"()()A", 4),
+        (b"a||b/c", 4),
+        (b")a)B)C", 3),
+        (b"!!!!!!!!A", 8),
+    ];
+    check_refused(3, &texts.map(|(text, place)| (text.to_vec(), place)));
+    check_refused(
+        3,
+        &[
+            (text(&[("a", 254), ("2", 1)]), 254),
+            (text(&[("a|", 127), ("A", 1)]), 254),
+            (text(&[("a", 40), ("A)", 1)]), 40),
+        ],
+    );
+}
+
+#[test]
+fn no_sentence_is_4_at_the_longest_beginning() {
+    let texts = [
+        (")", 0),
+        ("(a", 2),
+        ("a)", 1),
+        ("()", 1),
+        ("a|", 2),
+        ("*", 0),
+        ("|", 0),
+        ("&", 0),
+        ("!", 1),
+        ("(", 1),
+        ("a||b", 2),
+        ("a!*b", 2),
+        ("(a|)", 3),
+        ("a()b", 2),
+        ("(a)b)", 4),
+        ("((a)b", 5),
+        ("(a))(b", 3),
+        ("a|b&", 4),
+        ("ab!!", 4),
+        ("!(!(", 4),
+        ("(a|b))*", 5),
+        ("a|(b&(c*)", 9),
+    ];
+    check_refused(4, &texts.map(|(text, place)| (text.into(), place)));
+    check_refused(
+        4,
+        &[
+            (text(&[("(", 255)]), 255),
+            (text(&[("!", 255)]), 255),
+            (text(&[("|", 255)]), 0),
+            (text(&[("*", 255)]), 0),
+            (text(&[(")", 255)]), 0),
+            (text(&[("(", 254), ("a", 1)]), 255),
+            (text(&[("(", 254), (")", 1)]), 254),
+            (text(&[("(", 126), ("a", 1), (")", 127)]), 253),
+            (text(&[("(", 128), ("a", 1), (")", 126)]), 255),
+            (text(&[("a", 254), ("|", 1)]), 255),
+            (text(&[("a", 254), (")", 1)]), 254),
+            (text(&[("a", 127), (")", 1)]), 127),
+            (text(&[("(", 128), (")a", 1)]), 128),
+            (text(&[("!", 129), ("*a", 1)]), 129),
+        ],
+    );
+}
+
+#[test]
+fn refusal_4_comes_before_5_and_6() {
+    check_refused(
+        4,
+        &[
+            (text(&[("a", 33), ("|", 1)]), 34),
+            (text(&[("a", 33), (")", 1)]), 33),
+            (text(&[("(", 1), ("a", 33)]), 34),
+            (text(&[("a", 100), ("|&", 1), ("a", 100)]), 101),
+            (text(&[("a", 1), ("*", 70), ("(", 1)]), 72),
+            (text(&[("!", 8)]), 8),
+            (text(&[("!", 8), ("a)", 1)]), 9),
+            (text(&[("a&", 9)]), 18),
+            (text(&[("!", 8), ("a", 33), ("(", 1)]), 42),
+        ],
+    );
+}
+
+#[test]
+fn over_64_nodes_is_5_and_before_6() {
+    check_sizes(&[
+        (text(&[("a", 32)]), 63, 0),
+        (text(&[("a", 32), ("*", 1)]), 64, 0),
+        (text(&[("(a)", 32)]), 63, 0),
+        (text(&[("a|", 31), ("a", 1)]), 63, 0),
+        (text(&[("a", 1), ("*", 62)]), 63, 0),
+        (text(&[("a", 1), ("*", 63)]), 64, 0),
+        (text(&[("!", 7), ("a", 29)]), 64, 7),
+        (text(&[("(", 127), ("a", 1), (")", 127)]), 1, 0),
+        (text(&[("(", 79), ("(a)", 32), (")", 79), ("*", 1)]), 64, 0),
+        (b"abcdefghijklmnopqrstuvwxyz".to_vec(), 51, 0),
+    ]);
+    let texts = [
+        text(&[("a", 33)]),
+        text(&[("a", 32), ("*", 2)]),
+        text(&[("(a)", 33)]),
+        text(&[("a|", 32), ("a", 1)]),
+        text(&[("a", 1), ("*", 64)]),
+        text(&[("!", 7), ("a", 30)]),
+        text(&[("!", 8), ("a", 29)]),
+        text(&[("!", 8), ("a", 33)]),
+        text(&[("!", 64), ("a", 1)]),
+        text(&[("a&", 40), ("a", 1)]),
+        text(&[("a", 255)]),
+        text(&[("!", 254), ("a", 1)]),
+        text(&[("a", 1), ("*", 254)]),
+        text(&[("a|", 127), ("a", 1)]),
+    ];
+    check_refused(5, &texts.map(|text| (text, 0)));
+}
+
+#[test]
+fn over_7_special_nodes_is_6() {
+    check_readings(&[("!!!!!!!a", "8 7 7:a;6:!;5:!;4:!;3:!;2:!;1:!;0:!")]);
+    check_sizes(&[
+        (text(&[("!a", 7)]), 20, 7),
+        (text(&[("a&", 7), ("a", 1)]), 15, 7),
+        (text(&[("(a&", 7), ("a", 1), (")", 7)]), 15, 7),
+        (text(&[("a&", 4), ("!", 3), ("a", 1)]), 12, 7),
+        (b"!a&!a&!a&!a".to_vec(), 11, 7),
+    ]);
+    let texts = [
+        text(&[("!", 8), ("a", 1)]),
+        text(&[("!", 9), ("a", 1)]),
+        text(&[("!a", 8)]),
+        text(&[("!(", 8), ("a", 1), (")", 8)]),
+        text(&[("a&", 8), ("a", 1)]),
+        text(&[("a&", 5), ("!", 3), ("a", 1)]),
+        text(&[("!", 8), ("a", 28), ("*", 1)]),
+        text(&[("!", 63), ("a", 1)]),
+        b"!a&!a&!a&!!a".to_vec(),
+    ];
+    check_refused(6, &texts.map(|text| (text, 0)));
+}
+
+#[test]
+fn every_byte_stands_alone_as_a_rule() {
+    let edges = edges();
+    for byte in 0..=255u8 {
+        let expected = match byte {
+            b'a'..=b'z' | b'0' | b'1' => {
+                format!("rule\t0\t0\t0\t0\t1\t0\t0:{}", char::from(byte))
+            }
+            b'|' | b'&' | b'*' | b')' => "rule\t4\t0\t0\t0\t0\t0\t-".into(),
+            b'!' | b'(' => "rule\t4\t1\t0\t0\t0\t0\t-".into(),
+            _ => "rule\t3\t0\t0\t0\t0\t0\t-".into(),
+        };
+        assert_eq!(rule_answer(&edges, &[byte]), expected, "byte {byte}");
+    }
+}
+
+#[test]
+fn short_good_days_are_read() {
+    let edges = edges();
+    let good: [(&[u8], &str); 8] = [
+        (b"", "0\t128\t100000,100001"),
+        (b"E\t0\ta\n", "1\t97,129\t0,100001,100002"),
+        (b"E\t0\ta\nE\t0\ta\n", "2\t97,97,130\t0,0,100002,100003"),
+        (b"E\t9\ta\nE\t10\ta\n", "2\t97,97,130\t9,10,100002,100003"),
+        (
+            b"E\t7\tz\nE\t7\ty\nE\t7\tz\n",
+            "3\t122,121,122,131\t7,7,7,100003,100004",
+        ),
+        (b"E\t86399\tq\n", "1\t113,129\t86399,100001,100002"),
+        (b"E\t65536\tq\n", "1\t113,129\t65536,100001,100002"),
+        (b"E\t0\tq\n", "1\t113,129\t0,100001,100002"),
+    ];
+    for (day, rest) in good {
+        let (line, _) = answer_with_enough(&edges, day);
+        assert_eq!(line, format!("day\t0\t0\t0\t0\t{rest}"));
+    }
+}
+
+#[test]
+fn a_damaged_line_is_12() {
+    check_refused_days(&[
+        (b"F\t4\tb\n", 12, 1),
+        (b"e\t4\tb\n", 12, 1),
+        (b"\t4\tb\n", 12, 1),
+        (b"E4\tb\n", 12, 1),
+        (b"E\t4b\n", 12, 1),
+        (b"E\t\t4\tb\n", 12, 1),
+        (b"E\t4\t\tb\n", 12, 1),
+        (b"E 4\tb\n", 12, 1),
+        (b"E\t\tb\n", 12, 1),
+        (b"E\t123456\tb\n", 12, 1),
+        (b"E\t100000\tb\n", 12, 1),
+        (b"E\t086399\tb\n", 12, 1),
+        (b"E\t01\tb\n", 12, 1),
+        (b"E\t00\tb\n", 12, 1),
+        (b"E\t+1\tb\n", 12, 1),
+        (b"E\t-1\tb\n", 12, 1),
+        (b"E\tx\tb\n", 12, 1),
+        (b"E\t1x\tb\n", 12, 1),
+        (b"E\t4\tA\n", 12, 1),
+        (b"E\t4\tab\n", 12, 1),
+        (b"E\t4\t\n", 12, 1),
+        (b"E\t4\tb", 12, 1),
+        (b"E\t4\tb\r\n", 12, 1),
+        (b"E\t4\tb\t\n", 12, 1),
+        (b" E\t4\tb\n", 12, 1),
+        (b"\n", 12, 1),
+        // The first line is good, what follows is not.
+        (b"E\t4\tb\n\n", 12, 2),
+        (b"E\t3\ta\n\n", 12, 2),
+        (b"E\t3\ta\nF\t4\tb\nE\t5\tc\n", 12, 2),
+        (b"E\t3\ta\nE\t4\tbE\t5\tc\n", 12, 2),
+        (b"E\t3\ta\nE\t4\tb\r\nE\t5\tc\n", 12, 2),
+        (b"E\t3\ta\nE\t12345\tb", 12, 2),
+        (b"E\t3\ta\nE\t12345", 12, 2),
+        (b"E\t3\ta\nE", 12, 2),
+    ]);
+}
+
+#[test]
+fn a_second_too_late_or_too_early_is_13() {
+    check_refused_days(&[
+        (b"E\t86400\tq\n", 13, 1),
+        (b"E\t90000\tq\n", 13, 1),
+        (b"E\t99999\tq\n", 13, 1),
+        (b"E\t3\ta\nE\t86400\tb\nE\t5\tc\n", 13, 2),
+        (b"E\t10\ta\nE\t9\ta\n", 13, 2),
+        (b"E\t1\ta\nE\t0\ta\n", 13, 2),
+        (b"E\t86399\ta\nE\t86398\ta\n", 13, 2),
+        (b"E\t1\ta\nE\t5\tb\nE\t4\tc\n", 13, 3),
+        (b"E\t5\ta\nE\t1\tb\nE\t3\tc\n", 13, 2),
+    ]);
+}
+
+#[test]
+fn within_a_line_12_wins_and_then_the_first_bad_line() {
+    check_refused_days(&[
+        (b"E\t86400\tA\n", 12, 1),
+        (b"E\t99999\ta", 12, 1),
+        (b"E\t86400\ta\r\n", 12, 1),
+        (b"E\t5\ta\nE\t4\tA\n", 12, 2),
+        (b"E\t5\ta\nE\t4\ta", 12, 2),
+        (b"E\t5\ta\nE\t04\ta\n", 12, 2),
+        (b"E\nE\t86400\ta\n", 12, 1),
+        (b"E\t5\ta\n\nE\t4\ta\n", 12, 2),
+        (b"E\t86400\ta\nE\n", 13, 1),
+        (b"E\t5\ta\nE\t4\ta\nE\n", 13, 2),
+        (b"E\t86400\ta\nE\t0\ta\n", 13, 1),
+        (b"E\t5\ta\nE\t4\tA\nE\t3\ta\n", 12, 2),
+        (b"E\t5\ta\nE\t4\ta\nE\t86400\ta\nx", 13, 2),
+    ]);
+}
+
+#[test]
+fn every_byte_stands_as_letter_and_as_digit() {
+    let edges = edges();
+    for byte in 0..=255u8 {
+        let (line, _) = answer_with_enough(&edges, &[b"E\t5\t", &[byte][..], b"\n"].concat());
+        let expected = match byte {
+            b'a'..=b'z' => format!("day\t0\t0\t0\t0\t1\t{byte},129\t5,100001,100002"),
+            b'\n' => "day\t12\t1\t0\t0\t0\t128,129,130\t100000,100001,100002,100003".into(),
+            _ => "day\t12\t1\t0\t0\t0\t128,129\t100000,100001,100002".into(),
+        };
+        assert_eq!(line, expected, "letter {byte}");
+        let (line, _) = answer_with_enough(&edges, &[b"E\t", &[byte][..], b"\tk\n"].concat());
+        let expected = match byte {
+            b'0'..=b'9' => {
+                let second = byte - b'0';
+                format!("day\t0\t0\t0\t0\t1\t107,129\t{second},100001,100002")
+            }
+            b'\n' => "day\t12\t1\t0\t0\t0\t128,129,130\t100000,100001,100002,100003".into(),
+            _ => "day\t12\t1\t0\t0\t0\t128,129\t100000,100001,100002".into(),
+        };
+        assert_eq!(line, expected, "digit {byte}");
+    }
+}
+
+/// The lines of the edges with 255 lines: 26 letters at each of the seconds 0 to 9.
+fn full_day() -> Vec<String> {
+    let letters = ('a'..='z').cycle();
+    let seconds = (0..10).flat_map(|second| [second; 26]);
+    let lines = seconds.zip(letters);
+    lines
+        .map(|(second, letter)| format!("E\t{second}\t{letter}\n"))
+        .take(255)
+        .collect()
+}
+
+#[test]
+fn a_256th_line_is_14_unless_a_line_before_is_bad() {
+    let full = full_day().concat();
+    let and = |rest: &str| (full.clone() + rest).into_bytes();
+    let with = |place: usize, line: &str, rest: &str| {
+        let mut lines = full_day();
+        lines[place - 1] = line.into();
+        (lines.concat() + rest).into_bytes()
+    };
+    check_refused_days(&[
+        (&and("E\t9\ta\n"), 14, 256),
+        (&and("\n"), 14, 256),
+        (&b"E\t0\tb\n".repeat(425), 14, 256),
+        (&with(255, "E\t9\ta", ""), 12, 255),
+        (&with(1, "E\t0\tA\n", "E\t9\ta\n"), 12, 1),
+        (&with(128, "\n", "E"), 12, 128),
+        (&with(255, "E\t8\ta\n", "E"), 13, 255),
+    ]);
+    let (line, buffers) = answer_with_enough(&edges(), full.as_bytes());
+    let letters: Vec<u8> = (b'a'..=b'z').cycle().take(255).collect();
+    let letters = letters_after(&letters, buffers.0);
+    let seconds: Vec<usize> = (0..255).map(|index| index / 26).collect();
+    let seconds = seconds_after(&seconds, buffers.1);
+    assert_eq!(line, format!("day\t0\t0\t0\t0\t255\t{letters}\t{seconds}"));
+}
+
+#[test]
+fn over_2550_bytes_is_11_before_all_else() {
+    let longest = b"E\t86399\tz\n".repeat(255);
+    let (line, buffers) = answer_with_enough(&edges(), &longest);
+    let letters = letters_after(&[b'z'; 255], buffers.0);
+    let seconds = seconds_after(&[86_399; 255], buffers.1);
+    assert_eq!(line, format!("day\t0\t0\t0\t0\t255\t{letters}\t{seconds}"));
+    check_refused_days(&[(&[&longest[..], b"E"].concat(), 11, 0)]);
+    assert_eq!(
+        day_answer(&edges(), &[b'x'; 2_551], (0, 0)),
+        "day\t11\t0\t0\t0\t0\t-\t-"
+    );
+}
+
+#[test]
+fn a_buffer_shorter_than_n_is_15_after_all_lines() {
+    let edges = edges();
+    let check = |day: &[u8], buffers: (usize, usize), expected: &str| {
+        let line = day_answer(&edges, day, buffers);
+        assert_eq!(line, format!("day\t{expected}"), "{buffers:?}");
+    };
+    check(b"", (0, 0), "0\t0\t0\t0\t0\t-\t-");
+    check(b"", (0, 1), "0\t0\t0\t0\t0\t-\t100000");
+    check(b"E\t0\ta\n", (0, 0), "15\t0\t0\t0\t0\t-\t-");
+    check(b"E\t0\ta\n", (1, 0), "15\t0\t0\t0\t0\t128\t-");
+    check(b"E\t0\ta\n", (0, 2), "15\t0\t0\t0\t0\t-\t100000,100001");
+    check(b"E\t0\ta\n", (1, 1), "0\t0\t0\t0\t1\t97\t0");
+    let three = b"E\t0\ta\nE\t0\tb\nE\t0\tc\n";
+    check(three, (3, 3), "0\t0\t0\t0\t3\t97,98,99\t0,0,0");
+    check(three, (4, 3), "0\t0\t0\t0\t3\t97,98,99,131\t0,0,0");
+    check(three, (3, 4), "0\t0\t0\t0\t3\t97,98,99\t0,0,0,100003");
+    check(
+        three,
+        (2, 3),
+        "15\t0\t0\t0\t0\t128,129\t100000,100001,100002",
+    );
+    check(
+        three,
+        (4, 2),
+        "15\t0\t0\t0\t0\t128,129,130,131\t100000,100001",
+    );
+    check(b"E\t1\ta\nE\t2\tb\nE\n", (0, 0), "12\t3\t0\t0\t0\t-\t-");
+    check(b"E\t5\ta\nE\t4\tb\n", (1, 0), "13\t2\t0\t0\t0\t128\t-");
+    let full = full_day().concat();
+    let letters = letters_after(b"", 254);
+    let seconds = seconds_after(&[], 255);
+    let expected = format!("15\t0\t0\t0\t0\t{letters}\t{seconds}");
+    check(full.as_bytes(), (254, 255), &expected);
+    let letters = letters_after(b"", 255);
+    let expected = format!("14\t256\t0\t0\t0\t{letters}\t-");
+    check(format!("{full}x").as_bytes(), (255, 0), &expected);
+}
+
+#[test]
+fn every_number_of_both_readers_occurs() {
+    let times = numbers(&edges());
+    for number in (0..=6).chain(11..=15) {
+        assert!(times[number] > 0, "no {number}");
+    }
+    assert_eq!(times[7..=10], [0; 4]);
+    assert_eq!(times[16], 0);
+}
+
+#[test]
+fn every_answer_is_sound_by_itself() {
+    for (case, line) in edges() {
+        check_answer(&case, &line);
+    }
+}
+
+#[test]
+fn the_stream_stays_below_65536_bytes() {
+    assert!(stream("edges").len() < 65_536);
+}
