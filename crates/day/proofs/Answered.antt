@@ -22,6 +22,11 @@ use Rattle.day.proofs.Turns.{judged-line, turn-many, turn-end, turn-mal
 unlike : (x c size : ℕ) → Formed x c size ≡ Malformed → ⊥
 unlike x c size e = let n : _≡_ {A = ℕ} 0 1 = cc in omega arith
 
+-- one of two tests for less passes
+less : {a b c d : ℕ} → (ltb a b ≡ true) ⊎ (ltb c d ≡ true) → (a < b) ⊎ (c < d)
+less (inl t) = inl (ltb-true _ _ t)
+less (inr t) = inr (ltb-true _ _ t)
+
 -- ---- what the lines come to holds by their form
 -- what makes a line after one of the second y bad
 abbrev NoLine : ℕ → List ℕ → Type 0
@@ -85,14 +90,10 @@ says-line left y s h g next Malformed q =
     stops-here NoLine left y s h g (λ e after a. let f = line-found s e after a in unlike _ _ _ (sym (f .1) ∙ q))
 says-line left y s h g next (Formed x c size) q =
     choose (Says (suc left) y s) (ltb lastSecond x || ltb x y)
-    (λ f. stops-here BadSecond left y s h g (_, drop size s, line-sound s x c size q, over-or-under (either _ _ f)))
+    (λ f. stops-here BadSecond left y s h g (_, drop size s, line-sound s x c size q, less (either _ _ f)))
     (λ f. let n = neither (ltb lastSecond x) (ltb x y) f in
     says-front left y s (drop size s) _ (line-sound s x c size q) (ltb-false x y (n .1)) (ltb-false lastSecond x (n .0))
     (dayLines left x (drop size s)) (next x (drop size s)))
-  where
-    over-or-under : (ltb lastSecond x ≡ true) ⊎ (ltb x y ≡ true) → (lastSecond < x) ⊎ (x < y)
-    over-or-under (inl t) = inl (ltb-true lastSecond x t)
-    over-or-under (inr t) = inr (ltb-true x y t)
 
 says : (left y : ℕ) (s : List ℕ) → left ≤ 255 → Says left y s (dayLines left y s)
 unfolding dayLines
@@ -119,13 +120,9 @@ means s ls ss h manyLines b = many-lines (record { fits = h; good = b .good; beg
 means s ls ss h (events l) b =
     let w : Whole s l = record { fits = h; good = b .0; few = b .1 } in
     choose (DayMeaning s ls ss) (ltb (length ls) (length l) || ltb (length ss) (length l))
-    (λ f. short-buffer w (one-short (either _ _ f)))
+    (λ f. short-buffer w (less (either _ _ f)))
     (λ f. let n = neither (ltb (length ls) (length l)) (ltb (length ss) (length l)) f in
     accepted w (ltb-false _ _ (n .0)) (ltb-false _ _ (n .1)))
-  where
-    one-short : (ltb (length ls) (length l) ≡ true) ⊎ (ltb (length ss) (length l) ≡ true) → (length ls < length l) ⊎ (length ss < length l)
-    one-short (inl t) = inl (ltb-true (length ls) (length l) t)
-    one-short (inr t) = inr (ltb-true (length ss) (length l) t)
 
 pub answer-means : (s ls ss : List ℕ) → DayMeaning s ls ss (dayAnswer s ls ss)
 unfolding dayAnswer
@@ -139,17 +136,9 @@ abbrev prefixed : List DayEvent → DayVerdict → DayVerdict
 prefixed [] d = d
 prefixed (e ∷ l) d = front e (prefixed l d)
 
-prefixed-malformed : (l : List DayEvent) (p : ℕ) → prefixed l (malformed p) ≡ malformed p
-prefixed-malformed [] p = refl
-prefixed-malformed (e ∷ l) p = ap (front e) (prefixed-malformed l p)
-
-prefixed-order : (l : List DayEvent) (p : ℕ) → prefixed l (wrongSecond p) ≡ wrongSecond p
-prefixed-order [] p = refl
-prefixed-order (e ∷ l) p = ap (front e) (prefixed-order l p)
-
-prefixed-many : (l : List DayEvent) → prefixed l manyLines ≡ manyLines
-prefixed-many [] = refl
-prefixed-many (e ∷ l) = ap (front e) (prefixed-many l)
+prefixed-refusal : (d : DayVerdict) → ((e : DayEvent) → front e d ≡ d) → (l : List DayEvent) → prefixed l d ≡ d
+prefixed-refusal d h [] = refl
+prefixed-refusal d h (e ∷ l) = ap (front e) (prefixed-refusal d h l) ∙ h e
 
 prefixed-events : (l : List DayEvent) → prefixed l (events []) ≡ events l
 prefixed-events [] = refl
@@ -204,18 +193,18 @@ unfolding dayAnswer
 answer-is {s} {ls} {ss} (long-file h) = simp (lt-ltb 2550 (length s) h)
 answer-is {s} {ls} {ss} (many-lines {l = l} {rest = rest} u h) =
     by-lines s ls ss manyLines (u .fits) (run-all (u .good) (omega arith)
-    ∙ ap (prefixed l) (turn-many (length l) (secondAfter 0 l) rest h (u .begun)) ∙ prefixed-many l)
+    ∙ ap (prefixed l) (turn-many (length l) (secondAfter 0 l) rest h (u .begun)) ∙ prefixed-refusal manyLines (λ e. refl) l)
 answer-is {s} {ls} {ss} (malformed-line {l = l} {rest = rest} u h n) =
     let p : length l + 1 ≡ suc (length l) = omega arith in
     by-lines s ls ss (malformed (suc (length l))) (u .fits) (run-all (u .good) (omega arith)
     ∙ ap (prefixed l) (turn-malformed (length l) (secondAfter 0 l) rest h (u .begun) (no-line rest n) ∙ ap malformed p)
-    ∙ prefixed-malformed l (suc (length l)))
+    ∙ prefixed-refusal (malformed (suc (length l))) (λ e. refl) l)
 answer-is {s} {ls} {ss} (wrong-second {l = l} {rest = rest} {after = after} {e = e} u h a w) =
     let p : length l + 1 ≡ suc (length l) = omega arith in
     let f = line-found rest e after a in
     by-lines s ls ss (wrongSecond (suc (length l))) (u .fits) (run-all (u .good) (omega arith)
     ∙ ap (prefixed l) (turn-wrong (length l) (secondAfter 0 l) rest h (u .begun) _ _ _ (f .1) w ∙ ap wrongSecond p)
-    ∙ prefixed-order l (suc (length l)))
+    ∙ prefixed-refusal (wrongSecond (suc (length l))) (λ e. refl) l)
 answer-is {s} {ls} {ss} (short-buffer {l = l} w h) =
     sym (simp (shorter (length ls) (length ss) (length l) h)) ∙ by-lines s ls ss (events l) (w .fits) (whole-lines (w .good) (w .few))
 answer-is {s} {ls} {ss} (accepted {l = l} w h g) =

@@ -8,7 +8,7 @@ use lib.ListN.{length}
 use Rattle.day.specs.DayFile.{lastSecond, DayEvent, LineAt, Lines, secondAfter}
 use Rattle.day.specs.DayAnswer.{DayAnswer, refusal, acceptance}
 
--- the file s begins with the good lines l, the first after no line, that is, none below the second 0; something follows, which rest is
+-- the file s begins with the good lines l, and rest follows, which is not empty; `Lines 0`, since no line comes before the first
 pub record Until (s : List ℕ) (l : List DayEvent) (rest : List ℕ) : Type 0 where
   pub fits : length s ≤ 2550
   pub good : Lines 0 s l rest
