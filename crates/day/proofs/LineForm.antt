@@ -9,12 +9,15 @@ use lib.ListN.{length, getD, take, drop, take-append-drop}
 use lib.Seq.{drop-drop, length-take-le, getD-take, getD-drop, getD-append-add, take-append-seam, drop-append-add}
 use borrow.Author.Tests.{eq-eqb, eqb-true, le-leb}
 use Rattle.event.specs.Event.{isEvent}
+use Rattle.event.specs.Leading.{leading}
 use Rattle.event.proofs.EventLaws.{event-between}
+use Rattle.event.proofs.LeadingLaws.{leading-found}
+use Rattle.event.proofs.Tails.{rest-at}
 use Rattle.event.proofs.Tests.{and-split, T-of, of-T}
 use Rattle.day.specs.DayFile.{eventTag, DayEvent, isDigit, AllDigits, valueOf, Decimal, lineText, LineAt}
 use Rattle.day.specs.DayLines.{digitCount, isSecond, isLine, lineWith, lineOf}
 use Rattle.day.specs.declared.line.LineRead.the-variants.{Formed, Malformed}
-use Rattle.day.proofs.LineLaws.{rest-at, inside, count-within, counted-digits, second-is}
+use Rattle.day.proofs.LineLaws.{inside, counted-digits, second-is}
 
 -- ---- a line that is found has the form
 -- what the tests of a line with d digits say
@@ -75,7 +78,7 @@ line-within s x c size e =
 decimal-of : (s : List ℕ) (x c size : ℕ) → Parts s (digitCount (drop 2 s)) x c size → Decimal (take (digitCount (drop 2 s)) (drop 2 s)) x
 decimal-of s x c size p =
     let d = digitCount (drop 2 s) in
-    let n : length (take d (drop 2 s)) ≡ d = length-take-le d (drop 2 s) (count-within (drop 2 s)) in
+    let n : length (take d (drop 2 s)) ≡ d = length-take-le d (drop 2 s) (leading-found isDigit (drop 2 s) .within) in
     let z = second-is d (getD s 2 0) (p .second) in
     let f : getD (take d (drop 2 s)) 0 0 ≡ getD s 2 0 = getD-take d (drop 2 s) 0 0 (omega (arith, z .0)) ∙ getD-drop 2 s 0 0 in
     record {
@@ -123,7 +126,7 @@ line-sound s x c size e =
 
 -- ---- a line of the form is found
 count-run : (ds t : List ℕ) → AllDigits ds → digitCount (ds ++ 9 ∷ t) ≡ length ds
-unfolding digitCount
+unfolding leading
 count-run [] t a = refl
 count-run (b ∷ ds) t a = rw (of-T (isDigit b) (a .0)) (ap suc (count-run ds t (a .1)))
 

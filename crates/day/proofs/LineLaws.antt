@@ -9,30 +9,14 @@ use mathlib.Core.List.{List, [], _∷_}
 use mathlib.Core.Bool.{Bool, true, false, cond, not, _&&_}
 use lib.Dec.{T, leb, eqb, leb→le, eqb→eq}
 use borrow.Author.Tests.{eq-eqb, ne-eqb, not-false}
-use lib.ListN.{length, getD, take, drop, length-take, length-drop, drop-of-length-le, List·getD-eq-default}
-use lib.Seq.{drop-cons}
+use lib.ListN.{length, getD, take, drop, length-take, length-drop, List·getD-eq-default}
 use Rattle.event.proofs.Tests.{and-split, or-split, T-of}
-use Rattle.event.proofs.Tails.{tail, tail-is}
+use Rattle.event.specs.Leading.{leading}
+use Rattle.event.proofs.LeadingLaws.{leading-found}
+use Rattle.event.proofs.Tails.{tail, tail-is, rest-at}
 use Rattle.day.specs.DayFile.{isDigit, AllDigits, valueFrom, valueOf}
 use Rattle.day.specs.DayLines.{digitCount, isSecond, isLine, lineWith, lineOf}
 use Rattle.day.specs.declared.line.LineRead.the-variants.{Formed, Malformed}
-
--- the rest from n on, where there is a byte at n
-pub rest-at : (s : List ℕ) (n : ℕ) → n < length s → drop n s ≡ getD s n 0 ∷ drop (n + 1) s
-rest-at s n h = drop-cons s n 0 h ∙ ap (λ (k : ℕ). getD s n 0 ∷ drop k s) (sym (add-one n))
-
--- ---- counting digits
-pub counted-on : (s : List ℕ) (i : ℕ) → i < length s → isDigit (getD s i 0) ≡ true → digitCount (drop i s) ≡ suc (digitCount (drop (i + 1) s))
-unfolding digitCount
-counted-on s i h t = ap digitCount (rest-at s i h) ∙ rw t
-
-pub counted-here : (s : List ℕ) (i : ℕ) → i < length s → isDigit (getD s i 0) ≡ false → digitCount (drop i s) ≡ 0
-unfolding digitCount
-counted-here s i h t = ap digitCount (rest-at s i h) ∙ rw t
-
-pub counted-end : (s : List ℕ) (i : ℕ) → length s ≤ i → digitCount (drop i s) ≡ 0
-unfolding digitCount
-counted-end s i h = ap digitCount (drop-of-length-le s h)
 
 -- ---- the number that digits write
 pub digit-between : (b : ℕ) → T (isDigit b) → (48 ≤ b) × (b ≤ 57)
@@ -81,17 +65,8 @@ inside s i b e = go (decLt i (length s))
     go (yes h) = h
     go (no h) = let z = List·getD-eq-default s 0 {n = i} (omega arith) in absurd (omega arith)
 
-pub count-within : (s : List ℕ) → digitCount s ≤ length s
-unfolding digitCount
-count-within [] = omega arith
-count-within (b ∷ s) = go (isDigit b) (count-within s)
-  where
-    go : (t : Bool) → digitCount s ≤ length s → cond t (suc (digitCount s)) 0 ≤ suc (length s)
-    go true h = omega arith
-    go false h = omega arith
-
 pub counted-digits : (s : List ℕ) → AllDigits (take (digitCount s) s)
-unfolding digitCount
+unfolding leading
 counted-digits [] = tt
 counted-digits (b ∷ s) = go (isDigit b) refl (counted-digits s)
   where
@@ -132,7 +107,7 @@ module _ (s : List ℕ) (d : ℕ) (counted : d ≡ digitCount (tail 2 s)) where
       subst (λ (k : ℕ). Formed x b (d + 2 + 3) ≡ lineWith k s) count-is (rw t (ap₂ (λ (y c : ℕ). Formed y c (d + 2 + 3)) w l))
 
   pub count-fits : 2 ≤ length s → d + 2 ≤ length s
-  count-fits h = let w = count-within (drop 2 s) in omega (arith, count-is, length-drop 2 s)
+  count-fits h = let w = leading-found isDigit (drop 2 s) .within in omega (arith, count-is, length-drop 2 s)
 
   pub digits-part : d ≤ 5 → (length (take (d + 2 - 2) (drop 2 s)) ≤ 5) × AllDigits (take (d + 2 - 2) (drop 2 s))
   digits-part h =

@@ -11,7 +11,8 @@ use lib.Seq.{drop-drop, sets}
 use borrow.Author.Tests.{lt-ltb, le-ltb}
 use Rattle.event.proofs.Tails.{tail, tail-is}
 use Rattle.day.specs.DayFile.{lastSecond, DayEvent, letterOf, secondOf}
-use Rattle.day.specs.DayLines.{DayVerdict, malformed, wrongSecond, manyLines, events, front, judged, lineOf, dayLines, checked, withLine, eventsOf}
+use Rattle.day.specs.DayLines.{DayVerdict, malformed, wrongSecond, manyLines, events, front, judged, lineOf, dayLines}
+use Rattle.day.specs.DayLines.{checked, withLine, eventsOf}
 use Rattle.day.specs.declared.line.LineRead.{LineRead}
 use Rattle.day.specs.declared.line.LineRead.the-variants.{Formed}
 use Rattle.day.specs.declared.line.LineRead.the-variants as line

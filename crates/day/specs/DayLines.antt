@@ -6,6 +6,7 @@ use mathlib.Core.List.{List, [], _∷_}
 use lib.Dec.{leb, ltb, eqb}
 use lib.ListN.{length, getD, take, drop}
 use Rattle.event.specs.Event.{isEvent}
+use Rattle.event.specs.Leading.{leading}
 use Rattle.day.specs.DayFile.{lastSecond, eventTag, DayEvent, isDigit, valueOf}
 use Rattle.day.specs.declared.Outcome.the-variants as outcome
 use Rattle.day.specs.declared.line.LineRead.{LineRead}
@@ -14,9 +15,8 @@ use Rattle.day.specs.declared.passes.Checked.{Checked}
 use Rattle.day.specs.declared.passes.Checked.the-variants.{Good, Bad}
 
 -- how many digits stand at the front
-unfoldable pub digitCount : List ℕ → ℕ
-digitCount [] = 0
-digitCount (b ∷ s) = cond (isDigit b) (suc (digitCount s)) 0
+abbrev pub digitCount : List ℕ → ℕ
+digitCount s = leading isDigit s
 
 -- so many digits, of which this is the first, can be a second
 abbrev pub isSecond : ℕ → ℕ → Bool

@@ -1,4 +1,5 @@
--- Laws of events, and of tests and tails of slices, which the crates above share.
+-- Laws of events, and of tests, of tails of slices and of `leading`, which the crates above share.
 pub mod Tests
 pub mod EventLaws
 pub mod Tails
+pub mod LeadingLaws

@@ -1,3 +1,4 @@
--- What an event is; quoted texts.
+-- What an event is; how far a list passes a test; quoted texts.
 pub mod Event
+pub mod Leading
 pub mod Text

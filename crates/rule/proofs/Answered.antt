@@ -16,15 +16,15 @@ use Rattle.regex.specs.declared.Node.{Node}
 use Rattle.regex.specs.declared.ScanResult.{ScanResult}
 use Rattle.regex.specs.declared.ScanResult.the-variants.{Complete, Broken}
 use Rattle.regex.proofs.ScanAccepts.{sentence-found}
+use Rattle.event.proofs.LeadingLaws.{leading-found, leading-is}
 use Rattle.event.proofs.Tests.{choose}
 use Rattle.regex.proofs.ScanDecides.{scan-right}
 use Rattle.regex.proofs.OneReading.{tree-is}
 use Rattle.rule.specs.RuleAnswer.{RuleAnswer, refusal, acceptance, values, unused}
-use Rattle.rule.specs.RuleAnswer.{foreignAt, sized, afterScan, ruleAnswer, ruleValues}
+use Rattle.rule.specs.RuleAnswer.{isRuleByte, foreignAt, sized, afterScan, ruleAnswer, ruleValues}
 use Rattle.rule.specs.RuleMeaning.{FitsLength, Legal, RuleMeaning, empty-text, long-text, foreign-byte, no-sentence}
 use Rattle.rule.specs.RuleMeaning.{many-nodes, many-specials, accepted}
 use Rattle.rule.specs.declared.Answer.{Answer}
-use Rattle.rule.proofs.ForeignLaws.{foreign-found, foreign-is}
 
 -- ---- the answer means what it says
 sized-means : (s : List ℕ) → Legal s → (t : Tree) → Reads Alt 0 s t → RuleMeaning s (sized t)
@@ -40,7 +40,7 @@ read-means s a (Broken n) w = no-sentence a (w .none-such) (w .place)
 
 legal : (s : List ℕ) → FitsLength s → length s ≤ foreignAt s → Legal s
 legal s a h =
-    let x = foreign-found s in
+    let x = leading-found isRuleByte s in
     record { fits = a; listed = λ i l. x .before i (omega arith) }
 
 pub answer-means : (s : List ℕ) → RuleMeaning s (ruleAnswer s)
@@ -51,7 +51,7 @@ answer-means s =
     (λ e. choose R (ltb 255 (length s)) (λ l. long-text (ltb-true _ _ l))
     (λ l. let a : FitsLength s = fits e l in
     choose R (ltb (foreignAt s) (length s))
-    (λ f. let h = ltb-true _ _ f in foreign-byte a h (foreign-found s .before) (foreign-found s .there h))
+    (λ f. let h = ltb-true _ _ f in foreign-byte a h (leading-found isRuleByte s .before) (leading-found isRuleByte s .there h))
     (λ f. read-means s (legal s a (ltb-false _ _ f)) (scanned s) (scan-right s))))
   where
     fits : eqb (length s) 0 ≡ false → ltb 255 (length s) ≡ false → FitsLength s
@@ -76,7 +76,7 @@ past-foreign s a h =
 
 past : (s : List ℕ) → Legal s → ruleAnswer s ≡ afterScan s (scanned s)
 past s a =
-    let f = foreign-is s (length s) (record { within = omega arith; before = a .listed; there = λ h. absurd (omega arith) }) in
+    let f = leading-is isRuleByte s (length s) (record { within = omega arith; before = a .listed; there = λ h. absurd (omega arith) }) in
     past-foreign s (a .fits) (omega arith)
 
 of-reading : {s : List ℕ} {t : Tree} → Legal s → Reads Alt 0 s t → ruleAnswer s ≡ sized t
@@ -104,7 +104,7 @@ answer-is {s} (long-text h) =
     let n : length s ≡ 0 → ⊥ = λ e. omega arith in
     simp (ne-eqb (length s) 0 n, lt-ltb 255 (length s) h)
 answer-is {s} (foreign-byte {n = n} a h l b) =
-    let f = foreign-is s n (record { within = omega arith; before = l; there = λ h. b }) in
+    let f = leading-is isRuleByte s n (record { within = omega arith; before = l; there = λ h. b }) in
     sym (at-foreign s a (omega arith) ∙ ap (refusal 3) f)
 answer-is {s} (no-sentence {n = n} a none l) = sym (past s a ∙ broken-is s n none l (scanned s) (scan-right s))
 answer-is (many-nodes {t = t} a r h) = sym (of-reading a r ∙ simp (lt-ltb 64 (size t) h))

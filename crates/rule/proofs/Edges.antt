@@ -4,13 +4,14 @@ use mathlib.Core.Path.{_≡_, refl}
 use mathlib.Core.List.{List, [], _∷_, _++_, map}
 use lib.ListN.{replicate}
 use Rattle.event.specs.Event.{isEvent}
+use Rattle.event.specs.Leading.{leading}
 use Rattle.event.specs.Text.{bytes}
 use Rattle.regex.specs.Tree.{nodeRecord, records}
 use Rattle.regex.specs.Parse.{parse}
 use Rattle.regex.specs.Scan.{scanFrom}
 use Rattle.regex.specs.TreeOf.{treeOf}
 use Rattle.regex.specs.declared.Kind.the-variants.{Letter, Concatenation, Complement}
-use Rattle.rule.specs.RuleAnswer.{foreignAt, ruleAnswer, unused}
+use Rattle.rule.specs.RuleAnswer.{ruleAnswer, unused}
 
 -- a text with its number, place, m and k
 abbrev Case : Type 0
@@ -31,17 +32,17 @@ worked : Case → Case
 worked c = let a = ruleAnswer (c .0) in (c .0, a .number, a .place, a .m, a .k)
 
 edges : map worked cases ≡ cases
-unfolding ruleAnswer foreignAt isEvent scanFrom treeOf parse cases worked
+unfolding ruleAnswer leading isEvent scanFrom treeOf parse cases worked
 edges = refl
 
 -- `a(b)`: the concatenation has the offset of the parenthesis
 parenthesis : ruleAnswer (bytes "a(b)") .nodes
     ≡ nodeRecord 0 (Letter 97) ++ nodeRecord 2 (Letter 98) ++ nodeRecord 1 Concatenation ++ unused 61
-unfolding ruleAnswer foreignAt isEvent scanFrom treeOf parse records
+unfolding ruleAnswer leading isEvent scanFrom treeOf parse records
 parenthesis = refl
 
 -- `!ab`: the complement is of `a`
 complement : ruleAnswer (bytes "!ab") .nodes
     ≡ nodeRecord 1 (Letter 97) ++ nodeRecord 0 Complement ++ nodeRecord 2 (Letter 98) ++ nodeRecord 2 Concatenation ++ unused 60
-unfolding ruleAnswer foreignAt isEvent scanFrom treeOf parse records
+unfolding ruleAnswer leading isEvent scanFrom treeOf parse records
 complement = refl

@@ -2,7 +2,6 @@
 pub mod Answered
 mod Edges
 -- Laws that the proofs of its functions cite.
-mod ForeignLaws
 mod ScanLaws
 mod ReaderLaws
 mod Stored

@@ -1,12 +1,11 @@
 -- Laws of the scan that the proof of its code cites. Assumes nothing.
-use Prim.Native.Nat.{ℕ, suc, _+_, _≤_, _<_}
+use Prim.Native.Nat.{ℕ, _+_, _≤_, _<_}
 use native.Mathlib.Omega.{arith}
-use native.Mathlib.Numerals.{add-one}
 use mathlib.Core.Path.{_≡_, refl, sym, ap, subst, _∙_}
 use mathlib.Core.List.{List}
 use mathlib.Core.Bool.{Bool, cond}
 use lib.ListN.{length, getD, drop}
-use lib.Seq.{drop-cons, drop-length}
+use lib.Seq.{drop-length}
 use lib.Dec.{eqb}
 use Rattle.regex.specs.Bytes.{isLeaf}
 use Rattle.regex.specs.Scan.{stepOf, scanFrom, finish, afterStep}
@@ -14,6 +13,7 @@ use Rattle.regex.specs.declared.ScanState.{ScanState}
 use Rattle.regex.specs.declared.ScanStep.{ScanStep}
 use Rattle.regex.specs.declared.ScanStep.the-variants.{Stuck, Next}
 use Rattle.regex.specs.declared.ScanResult.the-variants.{Broken}
+use Rattle.event.proofs.Tails.{rest-at}
 use Rattle.event.proofs.Tests.{choose}
 
 -- what holds of both sides holds of the one that a test takes
@@ -47,9 +47,7 @@ turn : (s : List ℕ) (i : ℕ) (q : ScanState) → i < length s → (o : ScanSt
     → scanFrom (drop i s) i q ≡ afterStep (scanFrom (drop (i + 1) s)) i o
 unfolding scanFrom
 turn s i q h o e =
-    ap (λ (l : List ℕ). scanFrom l i q) (drop-cons s i 0 h)
-    ∙ ap (afterStep (scanFrom (drop (suc i) s)) i) (sym e)
-    ∙ ap (λ (n : ℕ). afterStep (scanFrom (drop n s)) i o) (sym (add-one i))
+    ap (λ (l : List ℕ). scanFrom l i q) (rest-at s i h) ∙ ap (afterStep (scanFrom (drop (i + 1) s)) i) (sym e)
 
 pub turn-stuck : (s : List ℕ) (i : ℕ) (q : ScanState) → i < length s → Stuck ≡ stepOf q (getD s i 0) → scanFrom (drop i s) i q ≡ Broken i
 turn-stuck s i q h e = turn s i q h Stuck e

@@ -1,10 +1,11 @@
 -- What the rule reader answers of a text, in the values of document 01. Assumes nothing.
-use Prim.Native.Nat.{ℕ, suc, _-_}
-use mathlib.Core.List.{List, [], _∷_, _++_}
+use Prim.Native.Nat.{ℕ, _-_}
+use mathlib.Core.List.{List, _++_}
 use mathlib.Core.Bool.{Bool, cond, _||_}
 use lib.Dec.{eqb, ltb}
 use lib.ListN.{length, replicate}
 use Rattle.event.specs.Event.{isEvent}
+use Rattle.event.specs.Leading.{leading}
 use Rattle.regex.specs.Tree.{Tree, size, specials, records}
 use Rattle.regex.specs.TreeOf.{treeOf}
 use Rattle.regex.specs.Scan.{scanned}
@@ -47,9 +48,8 @@ abbrev pub acceptance : Tree → RuleAnswer
 acceptance t = values 0 0 (size t) (specials t) (records t ++ unused (64 - size t))
 
 -- the offset of the first byte outside the list; the length where there is none
-unfoldable pub foreignAt : List ℕ → ℕ
-foreignAt [] = 0
-foreignAt (b ∷ s) = cond (isRuleByte b) (suc (foreignAt s)) 0
+abbrev pub foreignAt : List ℕ → ℕ
+foreignAt s = leading isRuleByte s
 
 -- 01, numbers 5 and 6: "m over 64", "k over 7"
 abbrev pub sized : Tree → RuleAnswer

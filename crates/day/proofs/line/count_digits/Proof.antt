@@ -5,8 +5,9 @@ use borrow.Author.Tests.{not-true, not-false}
 use native.Mathlib.Omega.{arith}
 use mathlib.Core.Path.{_≡_, sym, _∙_}
 use lib.ListN.{length, drop}
+use Rattle.event.proofs.LeadingLaws.{leading-on, leading-here, leading-end}
+use Rattle.day.specs.DayFile.{isDigit}
 use Rattle.day.specs.DayLines.{digitCount}
-use Rattle.day.proofs.LineLaws.{counted-on, counted-here, counted-end}
 use Rattle.day.proofs.line.count_digits.Statement.{statement}
 use Rattle.day.proofs.line.count_digits.Tie as tie
 
@@ -26,7 +27,7 @@ count-digits-spec =
     (λ c.
     let l = c .before .before .before .before in
     let s = l .before .before .args .s .now in
-    let e = counted-here s (l .loop .i) (c .before .before .before .loop-test .taken)
+    let e = leading-here isDigit s (l .loop .i) (c .before .before .before .loop-test .taken)
     (sym (c .before .is-digit .ensures) ∙ not-true _ (c .if1 .taken)) in
     omega (arith, l .loop .inv .1))
     (λ c. search needs)
@@ -35,9 +36,9 @@ count-digits-spec =
     let l = c .before .before .before .before in
     let s = l .before .before .args .s .now in
     let h = c .before .before .before .loop-test .taken in
-    let e = counted-on s (l .loop .i) h (sym (c .before .is-digit .ensures) ∙ not-false _ (c .if1 .left)) in
+    let e = leading-on isDigit s (l .loop .i) h (sym (c .before .is-digit .ensures) ∙ not-false _ (c .if1 .left)) in
     (omega arith, omega (arith, l .loop .inv .1)))
     (λ c.
     let l = c .before in
-    let e = counted-end (l .before .before .args .s .now) (l .loop .i) (c .loop-test .left) in
+    let e = leading-end isDigit (l .before .before .args .s .now) (l .loop .i) (c .loop-test .left) in
     omega (arith, l .loop .inv .1)))

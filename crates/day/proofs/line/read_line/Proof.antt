@@ -34,7 +34,9 @@ read-line-spec =
     (i .before .is-second .ensures) (i .if3 .left) in
     omega arith)
     (λ c κs. tt)
-    (λ c. not-line _ _ (c .before .before .before .before .before .count-digits .ensures) (simp (fails _ 9 (c .before .byte-at4 .ensures) (c .if4 .taken), and-false)))
+    (λ c.
+    let n = c .before .before .before .before .before .count-digits in
+    not-line _ _ (n .ensures) (simp (fails _ 9 (c .before .byte-at4 .ensures) (c .if4 .taken), and-false)))
     (λ c.
     let i = c .before .before in
     let f = second-few (i .before .before .before .count-digits .result) (i .before .before .byte-at3 .result)
@@ -73,7 +75,8 @@ read-line-spec =
     (i .before .is-second .ensures) (i .if3 .left) in
     omega arith)
     (λ c.
-    let l = c .before .before .before .before .before .before in
+    let e = c .before .before .before .before in
+    let l = e .before .before in
     let i = l .before .before .before in
     let n = i .before .before .before in
     let t = n .before .before in
@@ -83,6 +86,6 @@ read-line-spec =
       passes _ 9 (t .before .byte-at2 .ensures) (t .if2 .left),
       tested (isSecond (n .count-digits .result)) (i .before .before .byte-at3 .ensures) (i .before .is-second .ensures) (not-false _ (i .if3 .left)),
       passes _ 9 (l .before .before .byte-at4 .ensures) (l .before .if4 .left),
-      tested isEvent (l .byte-at5 .ensures) (c .before .before .before .before .before .is-event .ensures) (not-false _ (c .before .before .before .before .if5 .left)),
+      tested isEvent (l .byte-at5 .ensures) (e .before .is-event .ensures) (not-false _ (e .if5 .left)),
       passes _ 10 (c .before .before .before .byte-at6 .ensures) (c .before .before .if6 .left),
     ))))

@@ -30,7 +30,8 @@ check-lines-spec =
     (λ c.
     let r = c .before .before in
     let t = r .before .before .before in
-    coming-malformed (t .before .loop .inv) (t .loop-test .taken) (r .read-line .ensures) (r .before .before .if1 .left) (c .enum-told .given .1))
+    coming-malformed (t .before .loop .inv) (t .loop-test .taken) (r .read-line .ensures) (r .before .before .if1 .left)
+    (c .enum-told .given .1))
     (λ c. search needs)
     (λ c. search needs)
     (λ c.

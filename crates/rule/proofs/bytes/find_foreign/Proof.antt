@@ -4,8 +4,8 @@ use native.Mathlib.Omega.{arith}
 use mathlib.Core.Path.{_≡_, sym, _∙_}
 use lib.ListN.{length, drop}
 use borrow.Author.Needs.{needs}
-use Rattle.rule.specs.RuleAnswer.{foreignAt}
-use Rattle.rule.proofs.ForeignLaws.{foreign-on, foreign-here, foreign-end}
+use Rattle.event.proofs.LeadingLaws.{leading-on, leading-here, leading-end}
+use Rattle.rule.specs.RuleAnswer.{isRuleByte, foreignAt}
 use Rattle.rule.proofs.bytes.find_foreign.Statement.{statement}
 use Rattle.rule.proofs.bytes.find_foreign.Tie as tie
 
@@ -26,14 +26,14 @@ find-foreign-spec =
     (λ c. search needs)
     (λ c.
     let l = c .before .before .before .before in
-    let e = foreign-on (l .before .before .args .text .now) (l .loop .i) (c .before .before .before .loop-test .taken)
+    let e = leading-on isRuleByte (l .before .before .args .text .now) (l .loop .i) (c .before .before .before .loop-test .taken)
     (sym (c .before .is-rule-byte .ensures) ∙ c .if1 .taken) in
     (omega arith, omega arith))
     (λ c.
     let l = c .before .before .before .before in
-    let e = foreign-here (l .before .before .args .text .now) (l .loop .i) (c .before .before .before .loop-test .taken)
+    let e = leading-here isRuleByte (l .before .before .args .text .now) (l .loop .i) (c .before .before .before .loop-test .taken)
     (sym (c .before .is-rule-byte .ensures) ∙ c .if1 .left) in
     omega arith)
     (λ c.
-    let e = foreign-end (c .before .before .before .args .text .now) (c .before .loop .i) (omega arith) in
+    let e = leading-end isRuleByte (c .before .before .before .args .text .now) (c .before .loop .i) (omega arith) in
     omega arith))
