@@ -1,3 +1,5 @@
 -- Laws of bits.
 pub mod Tally
 pub mod Packed
+pub mod Digits
+pub mod Laws

@@ -9,8 +9,8 @@ use lib.Count.{ones, ones-step}
 use lib.ListN.{length, getD, List·getD-append}
 use lib.Seq.{getD-append-add}
 use borrow.Author.Tests.{eqb-true, eqb-false}
-use Rattle.bits.specs.Bit.{hasBit, bitAt, onesOf, indicator, packed, packedRun}
-use Rattle.bits.proofs.Tally.{tallyBelow, tally-none, tally-add}
+use Rattle.bits.specs.Bit.{hasBit, bitAt, onesOf, indicator, tallyBelow, packed, packedRun}
+use Rattle.bits.proofs.Tally.{tally-none, tally-add}
 
 indicator-lt : (b : Bool) → indicator b < 2
 indicator-lt true = omega arith

@@ -3,12 +3,7 @@ use mathlib.Core.Path.{_≡_, refl, ap, ap₂, _∙_}
 use mathlib.Core.Bool.{Bool, false}
 use Prim.Native.Nat.{ℕ, zero, suc, _+_, _<_}
 use native.Mathlib.Omega.{arith}
-use Rattle.bits.specs.Bit.{indicator}
-
--- how many of f 0 to f (k - 1) pass
-unfoldable pub tallyBelow : ℕ → (ℕ → Bool) → ℕ
-tallyBelow zero f = 0
-tallyBelow (suc k) f = indicator (f 0) + tallyBelow k (λ r. f (suc r))
+use Rattle.bits.specs.Bit.{indicator, tallyBelow}
 
 pub tally-same : (k : ℕ) (f g : ℕ → Bool) → ((r : ℕ) → r < k → f r ≡ g r) → tallyBelow k f ≡ tallyBelow k g
 unfolding tallyBelow
@@ -30,3 +25,10 @@ tally-add (suc a) b f =
     let e : suc a + b ≡ suc (a + b) = omega arith in
     let h = tally-same b (λ r. f (suc (a + r))) (λ r. f (suc a + r)) (λ r l. ap f (omega arith)) in
     ap (λ n. tallyBelow n f) e ∙ omega (arith, tally-add a b (λ r. f (suc r)), h)
+
+pub tally-more : (k : ℕ) (f : ℕ → Bool) → tallyBelow (k + 1) f ≡ indicator (f k) + tallyBelow k f
+unfolding tallyBelow
+tally-more k f =
+    let e : k + 0 ≡ k = omega arith in
+    let h : indicator (f (k + 0)) ≡ indicator (f k) = ap (λ n. indicator (f n)) e in
+    omega (arith, tally-add k 1 f, h)

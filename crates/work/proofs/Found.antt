@@ -6,8 +6,8 @@ use Prim.Native.Nat.{ℕ, zero, suc, _+_, _*_, _-_, _/_, _%_, _≤_}
 use native.Mathlib.Omega.{arith}
 use lib.ListN.{length}
 use lib.Seq.{slice}
-use Rattle.bits.specs.Bit.{indicator}
-use Rattle.bits.proofs.Tally.{tallyBelow, tally-same, tally-none, tally-add}
+use Rattle.bits.specs.Bit.{indicator, tallyBelow}
+use Rattle.bits.proofs.Tally.{tally-same, tally-none, tally-add}
 use Rattle.bits.proofs.Packed.{run-ones}
 use Rattle.event.specs.Event.{Word}
 use Rattle.event.proofs.Tests.{same-test}
