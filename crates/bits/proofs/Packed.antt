@@ -1,11 +1,12 @@
 -- Packed numbers and runs: their bits, their ones, and that their bits determine them. Assumes nothing.
 use mathlib.Core.Path.{_≡_, refl, sym, ap, ap₂, _∙_}
-use mathlib.Core.List.{List, _++_}
+use mathlib.Core.List.{List, [], _∷_, _++_}
 use mathlib.Core.Bool.{Bool, true, false}
 use Prim.Native.Nat.{ℕ, zero, suc, _+_, _*_, _/_, _%_, _^_, _<_}
 use native.Mathlib.Omega.{arith}
 use native.Mathlib.Nat.{div-div-eq-div-mul, pow-succ'}
 use lib.Count.{ones, ones-step}
+use lib.Dec.{lit<}
 use lib.ListN.{length, getD, List·getD-append}
 use lib.Seq.{getD-append-add}
 use borrow.Author.Tests.{eqb-true, eqb-false}
@@ -116,3 +117,18 @@ bit-behind a b p =
     let q : (64 * length a + p) / 64 ≡ length a + p / 64 = omega arith in
     let r : (64 * length a + p) % 64 ≡ p % 64 = omega arith in
     ap₂ (λ m n. hasBit m (getD (a ++ b) n 0)) r q ∙ ap (hasBit (p % 64)) (getD-append-add a b (p / 64) 0)
+
+-- ---- runs of 64-bit numbers
+abbrev pub Small : List ℕ → Type 0
+Small a = (i : ℕ) → getD a i 0 < 2 ^ 64
+
+pub run-small : (c : ℕ) (f : ℕ → Bool) → Small (packedRun c f)
+unfolding packedRun
+run-small zero f i = lit< tt
+run-small (suc c) f zero = packed-lt 64 f
+run-small (suc c) f (suc i) = run-small c (λ p. f (64 + p)) i
+
+pub append-small : (a b : List ℕ) → Small a → Small b → Small (a ++ b)
+append-small [] b h k i = k i
+append-small (x ∷ a) b h k zero = h 0
+append-small (x ∷ a) b h k (suc i) = append-small a b (λ n. h (suc n)) k i

@@ -17,6 +17,7 @@ pub mod Owners
 pub mod WorkSize
 pub mod Listed
 pub mod TableLaws
+pub mod TableOnly
 pub mod Found
 pub mod Order
 pub mod PartRecords

@@ -1,5 +1,5 @@
 -- The special parts of a rule: which they are, and that they stand in rising byte offset. Assumes nothing.
-use mathlib.Core.Path.{_≡_, refl, sym, subst}
+use mathlib.Core.Path.{_≡_, refl, sym, ap, ap₂, subst}
 use mathlib.Core.Logic.{⊎-elim}
 use mathlib.Core.List.{List, [], _∷_, _++_, List·Memᴰ, List·Memᴰ·head, List·Memᴰ·tail, List·Memᴰ·not-nil, List·Memᴰ·cases-cons}
 use mathlib.Core.List.{List·Memᴰ·append-cases, Memᴰ·append-left, Memᴰ·append-right}
@@ -109,3 +109,38 @@ special-listed (concatenation-left {b = b} p) h = Memᴰ·append-left (specialPa
 special-listed (concatenation-right {a = a} p) h = Memᴰ·append-right (specialParts a) (special-listed p h)
 special-listed (complement-inner p) h = List·Memᴰ·tail (special-listed p h)
 special-listed (star-inner p) h = special-listed p h
+
+-- ---- one list only
+above : (lo : ℕ) (l : List Tree) (u : Tree) → Rising lo l → List·Memᴰ u l → lo ≤ offset u
+above lo [] u r m = absurd (List·Memᴰ·not-nil m)
+above lo (t ∷ l) u r m =
+    ⊎-elim (λ (e : u ≡ t). rw e (r .0)) (λ k. let h = above (suc (offset t)) l u (r .1) k in omega (arith, r .0)) (List·Memᴰ·cases-cons m)
+
+abbrev Members : List Tree → List Tree → Type 0
+Members k l = (u : Tree) → List·Memᴰ u k → List·Memᴰ u l
+
+-- the first of a rising list stands in no other place, so what is left has the same members
+rest-members : (lo : ℕ) (t : Tree) (k l : List Tree) → Rising lo (t ∷ k) → Members (t ∷ k) (t ∷ l) → Members k l
+rest-members lo t k l r f u m =
+    ⊎-elim (λ (e : u ≡ t). let h = above (suc (offset t)) k u (r .1) m in let g = ap (λ (x : Tree). offset x) e in absurd (omega arith)) (λ n. n)
+    (List·Memᴰ·cases-cons (f u (List·Memᴰ·tail m)))
+
+first-same : (lo lo′ : ℕ) (t v : Tree) (k l : List Tree) → Rising lo (t ∷ k) → Rising lo′ (v ∷ l)
+    → Members (t ∷ k) (v ∷ l) → Members (v ∷ l) (t ∷ k) → t ≡ v
+first-same lo lo′ t v k l r q f g =
+    ⊎-elim (λ (e : t ≡ v). e)
+    (λ m. ⊎-elim (λ (e : v ≡ t). sym e)
+    (λ n. let a = above (suc (offset v)) l t (q .1) m in let b = above (suc (offset t)) k v (r .1) n in absurd (omega arith))
+    (List·Memᴰ·cases-cons (g v (List·Memᴰ·head refl))))
+    (List·Memᴰ·cases-cons (f t (List·Memᴰ·head refl)))
+
+-- two rising lists with the same members are one
+pub rising-one : (lo lo′ : ℕ) (k l : List Tree) → Rising lo k → Rising lo′ l → Members k l → Members l k → k ≡ l
+rising-one lo lo′ [] [] r q f g = refl
+rising-one lo lo′ [] (v ∷ l) r q f g = absurd (List·Memᴰ·not-nil (g v (List·Memᴰ·head refl)))
+rising-one lo lo′ (t ∷ k) [] r q f g = absurd (List·Memᴰ·not-nil (f t (List·Memᴰ·head refl)))
+rising-one lo lo′ (t ∷ k) (v ∷ l) r q f g =
+    let e = first-same lo lo′ t v k l r q f g in
+    let f′ : Members (t ∷ k) (t ∷ l) = subst (λ (x : Tree). Members (t ∷ k) (x ∷ l)) (sym e) f in
+    let g′ : Members (v ∷ l) (v ∷ k) = subst (λ (x : Tree). Members (v ∷ l) (x ∷ k)) e g in
+    ap₂ _∷_ e (rising-one (suc (offset t)) (suc (offset v)) k l (r .1) (q .1) (rest-members lo t k l r f′) (rest-members lo′ v l k q g′))

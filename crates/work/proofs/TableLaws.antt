@@ -5,11 +5,11 @@ use mathlib.Core.List.{List, [], _∷_, _++_}
 use mathlib.Core.Bool.{_&&_}
 use Prim.Native.Nat.{ℕ, zero, suc, _+_, _*_, _≤_, _<_}
 use native.Mathlib.Omega.{arith}
-use lib.Dec.{T, leb, leb→le, le→leb}
+use lib.Dec.{T, leb, leb→le, le→leb, lit<}
 use lib.ListN.{length, getD, length-append}
 use lib.Seq.{slice}
 use Rattle.bits.specs.Bit.{bitAt}
-use Rattle.bits.proofs.Packed.{run-length, run-bit, bit-front, bit-behind}
+use Rattle.bits.proofs.Packed.{run-length, run-bit, bit-front, bit-behind, Small, run-small, append-small}
 use Rattle.event.specs.Event.{Word}
 use Rattle.event.proofs.Tests.{and-split, and-join, T-of, of-T}
 use Rattle.regex.specs.Tree.{Tree, empty, epsilon, letter, union, intersection, concatenation, complement, star, specials}
@@ -72,7 +72,7 @@ blocks-bit w (t ∷ l) d (suc b) p h k =
     ∙ blocks-bit w l d b p (omega arith) k
 
 -- a block's bits hold the block
-holds : (w : Word) (t : Tree) (run : List ℕ) (first : ℕ) → length w ≤ 255
+pub holds : (w : Word) (t : Tree) (run : List ℕ) (first : ℕ) → length w ≤ 255
     → ((p : ℕ) → p < 64 * blockLength (length w) → bitAt run (64 * first + p) ≡ obeys w t (startOf p) (endOf p)) → HoldsBlock w t run first
 holds w t run first short h =
     record {
@@ -97,3 +97,24 @@ unfolding table
 table-holds w t b short h =
     holds w (getD (t ∷ specialParts t) b t) (blocks w (t ∷ specialParts t)) (b * blockLength (length w)) short
     (λ p l. blocks-bit w (t ∷ specialParts t) t b p (omega (arith, parts-length t)) l ∙ block-bit w (getD (t ∷ specialParts t) b t) p l)
+
+-- a block stays where it is when numbers are put behind the run
+pub holds-in-front : {w : Word} {t : Tree} {run : List ℕ} {first : ℕ} (rest : List ℕ) → length w ≤ 255
+    → first + blockLength (length w) ≤ length run → HoldsBlock w t run first → HoldsBlock w t (run ++ rest) first
+holds-in-front {w} {t} {run} {first} rest short room h = record {
+  spans = λ i j o.
+      let a : position i j < 64 * blockLength (length w) = omega (arith, o .order, o .inside) in
+      bit-front run rest (64 * first + position i j) (omega arith) ∙ h .spans i j o;
+  others = λ p l e. h .others p l (sym (bit-front run rest (64 * first + p) (omega arith)) ∙ e);
+}
+
+-- each number of the table is a 64-bit number
+blocks-small : (w : Word) (l : List Tree) → Small (blocks w l)
+unfolding block
+blocks-small w [] = λ i. lit< tt
+blocks-small w (t ∷ l) = append-small (block w t) (blocks w l)
+    (run-small (blockLength (length w)) (λ p. obeys w t (startOf p) (endOf p))) (blocks-small w l)
+
+pub table-small : (w : Word) (t : Tree) → Small (table w t)
+unfolding table
+table-small w t = blocks-small w (t ∷ specialParts t)
