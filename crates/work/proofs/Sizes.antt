@@ -81,8 +81,10 @@ shorter {A} (x ∷ l) m d h =
     left p a r (inl b) = Memᴰ·append-left (r .rest) b
     left p a r (inr b) = after p a r (List·Memᴰ·cases-cons b)
 
+-- a collection within another is no larger
+pub size-most : {A : Type 0} (P Q : A → Type 0) (m n : ℕ) → ((p : A) → P p → Q p) → SizeOf P m → SizeOf Q n → m ≤ n
+size-most P Q m n h y z =
+    let a = shorter (y .list) (z .list) (y .once) (λ p k. z .holds p .1 (h p (y .holds p .0 k))) in omega (arith, y .count, z .count, a)
+
 pub size-unique : {A : Type 0} (P : A → Type 0) (m n : ℕ) → SizeOf P m → SizeOf P n → m ≡ n
-size-unique P m n y z =
-    let a = shorter (y .list) (z .list) (y .once) (λ p k. z .holds p .1 (y .holds p .0 k)) in
-    let b = shorter (z .list) (y .list) (z .once) (λ p k. y .holds p .1 (z .holds p .0 k)) in
-    omega (arith, y .count, z .count, a, b)
+size-unique P m n y z = omega (arith, size-most P P m n (λ p h. h) y z, size-most P P n m (λ p h. h) z y)

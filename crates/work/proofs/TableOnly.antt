@@ -1,7 +1,7 @@
 -- A run of 64-bit numbers that holds all blocks is the span table: its bits, and so its numbers, are determined. Assumes nothing.
-use mathlib.Core.Path.{_≡_, sym, ap, _∙_}
+use mathlib.Core.Path.{_≡_, sym, ap, subst, _∙_}
 use mathlib.Core.List.{List, [], _∷_, _++_}
-use Prim.Native.Nat.{ℕ, zero, suc, _+_, _*_, _/_, _%_, _≤_, _<_}
+use Prim.Native.Nat.{ℕ, zero, suc, _+_, _*_, _/_, _%_, _^_, _≤_, _<_}
 use native.Mathlib.Omega.{arith}
 use native.Mathlib.Nat.{mod-lt, div-add-mod', div-lt-iff-lt-mul}
 use lib.Dec.{T}
@@ -14,7 +14,7 @@ use Rattle.event.proofs.Tests.{T-of, of-T, same-test}
 use Rattle.regex.specs.Tree.{Tree, specials}
 use Rattle.work.specs.Span.{Obeys}
 use Rattle.work.specs.Table.{obeys, position, startOf, endOf, blockLength, HoldsBlock, block, specialParts, blocks, table, needOf}
-use Rattle.work.proofs.TableLaws.{obeys-eq, block-length, blocks-length, parts-length}
+use Rattle.work.proofs.TableLaws.{obeys-eq, block-length, parts-length, table-length}
 
 -- number q of block number b
 blocks-at : (w : Word) (l : List Tree) (d : Tree) (b q : ℕ) → b < length l → q < blockLength (length w)
@@ -28,7 +28,7 @@ blocks-at w (u ∷ l) d (suc b) q h k =
     ap (λ i. getD (block w u ++ blocks w l) i 0) e
     ∙ getD-append-add (block w u) (blocks w l) (b * blockLength (length w) + q) 0 ∙ blocks-at w l d b q (omega arith) k
 
-module _ (w : Word) (run : List ℕ) (short : length w ≤ 255) (small : Small run) where
+module _ (w : Word) (run : List ℕ) (short : length w ≤ 255) where
   held-bit : (u : Tree) (first p : ℕ) → HoldsBlock w u run first → p < 64 * blockLength (length w)
       → bitAt run (64 * first + p) ≡ obeys w u (startOf p) (endOf p)
   held-bit u first p h l = same-test (bitAt run (64 * first + p)) (obeys w u (startOf p) (endOf p)) to from
@@ -46,33 +46,42 @@ module _ (w : Word) (run : List ℕ) (short : length w ≤ 255) (small : Small r
           T-of (bitAt run (64 * first + p))
           (ap (λ n. bitAt run (64 * first + n)) (sym e) ∙ h .spans (startOf p) (endOf p) (obeys-eq w u (startOf p) (endOf p) .0 b))
 
-  held-number : (u : Tree) (first q : ℕ) → HoldsBlock w u run first → q < blockLength (length w) → getD run (first + q) 0 ≡ getD (block w u) q 0
+  held-number : (u : Tree) (first q : ℕ) → HoldsBlock w u run first → q < blockLength (length w) → getD run (first + q) 0 < 2 ^ 64
+      → getD run (first + q) 0 ≡ getD (block w u) q 0
   unfolding bitAt block
-  held-number u first q h k =
-      packed-is 64 (getD run (first + q) 0) (λ s. obeys w u (startOf (64 * q + s)) (endOf (64 * q + s))) (small (first + q))
+  held-number u first q h k small =
+      packed-is 64 (getD run (first + q) 0) (λ s. obeys w u (startOf (64 * q + s)) (endOf (64 * q + s))) small
       (λ s z.
       let a : (64 * first + (64 * q + s)) % 64 ≡ s = omega arith in
       let b : (64 * first + (64 * q + s)) / 64 ≡ first + q = omega arith in
       rw (a, b) at (held-bit u first (64 * q + s) h (omega arith)))
       ∙ sym (run-at (blockLength (length w)) (λ p. obeys w u (startOf p) (endOf p)) q k)
 
-  held-blocks : (l : List Tree) (d : Tree) → length run ≡ length l * blockLength (length w)
-      → ((b : ℕ) → b < length l → HoldsBlock w (getD l b d) run (b * blockLength (length w))) → run ≡ blocks w l
-  held-blocks l d e h =
-      ext-getD 0 run (blocks w l) (e ∙ sym (blocks-length w l)) (λ k z.
+  held-blocks : (l : List Tree) (d : Tree) → ((b : ℕ) → b < length l → HoldsBlock w (getD l b d) run (b * blockLength (length w)))
+      → (k : ℕ) → k < length l * blockLength (length w) → getD run k 0 < 2 ^ 64 → getD run k 0 ≡ getD (blocks w l) k 0
+  held-blocks l d h k z small =
       let c = blockLength (length w) in
       let b = k / blockLength (length w) in
       let q = k % blockLength (length w) in
       let s : k / blockLength (length w) * blockLength (length w) + k % blockLength (length w) ≡ k = div-add-mod' k (blockLength (length w)) in
       let g : k % blockLength (length w) < blockLength (length w) = mod-lt k (omega arith) in
-      let f : k / blockLength (length w) < length l = div-lt-iff-lt-mul (omega arith) .1 (omega (arith, e, z)) in
-      ap (λ i. getD run i 0) (sym s) ∙ held-number (getD l b d) (b * c) q (h b f) g
-      ∙ sym (blocks-at w l d b q f g) ∙ ap (λ i. getD (blocks w l) i 0) s)
+      let y : 0 < blockLength (length w) = omega arith in
+      let f : k / blockLength (length w) < length l = div-lt-iff-lt-mul y .1 z in
+      ap (λ i. getD run i 0) (sym s)
+      ∙ held-number (getD l b d) (b * c) q (h b f) g (subst (λ i. getD run i 0 < 2 ^ 64) (sym s) small)
+      ∙ sym (blocks-at w l d b q f g) ∙ ap (λ i. getD (blocks w l) i 0) s
 
-  pub table-only : (t : Tree) → length run ≡ needOf (specials t) (length w)
-      → ((b : ℕ) → b ≤ specials t → HoldsBlock w (getD (t ∷ specialParts t) b t) run (b * blockLength (length w))) → run ≡ table w t
+  -- the needed numbers of a run that holds the blocks of t
+  pub table-numbers : (t : Tree)
+      → ((b : ℕ) → b ≤ specials t → HoldsBlock w (getD (t ∷ specialParts t) b t) run (b * blockLength (length w)))
+      → (k : ℕ) → k < needOf (specials t) (length w) → getD run k 0 < 2 ^ 64 → getD run k 0 ≡ getD (table w t) k 0
   unfolding table
-  table-only t e h =
-      let k = parts-length t in
-      held-blocks (t ∷ specialParts t) t (e ∙ omega (arith, ap (λ n. suc n * blockLength (length w)) (parts-length t)))
-      (λ b l. h b (omega arith))
+  table-numbers t h k z small =
+      let e = parts-length t in
+      let n : length (t ∷ specialParts t) * blockLength (length w) ≡ needOf (specials t) (length w) = omega
+      (arith, ap (λ n. suc n * blockLength (length w)) (parts-length t)) in
+      held-blocks (t ∷ specialParts t) t (λ b l. h b (omega arith)) k (omega arith) small
+
+  pub table-only : (t : Tree) → Small run → length run ≡ needOf (specials t) (length w)
+      → ((b : ℕ) → b ≤ specials t → HoldsBlock w (getD (t ∷ specialParts t) b t) run (b * blockLength (length w))) → run ≡ table w t
+  table-only t small e h = ext-getD 0 run (table w t) (e ∙ sym (table-length w t)) (λ k z. table-numbers t h k (omega arith) (small k))

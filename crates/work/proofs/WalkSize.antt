@@ -52,7 +52,7 @@ last-or-below : (j k : ℕ) → j ≤ suc k → (j ≡ suc k) ⊎ (j ≤ k)
 last-or-below j k l = ⊎-elim (λ e. inl e) (λ m. inr (omega arith)) (eq-or-lt-of-le l)
 
 -- one place, if the test passes
-place-size : (u : Owner) (i z k : ℕ) (b : Bool) → SizeOf (Of u i (λ s j. (s ≡ z) × (j ≡ k) × T b)) (indicator b)
+pub place-size : (u : Owner) (i z k : ℕ) (b : Bool) → SizeOf (Of u i (λ s j. (s ≡ z) × (j ≡ k) × T b)) (indicator b)
 place-size u i z k true =
     size-one (Of u i (λ s j. (s ≡ z) × (j ≡ k) × Unit {0})) (record { owner = u; start = i; state = z; used = k })
     (λ p. (

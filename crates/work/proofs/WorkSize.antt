@@ -36,7 +36,7 @@ module _ (w : Word) where
   abbrev Specials : Tree → ℕ → Visit → Type 0
   Specials t x = BySpecial (SpecialWalk w t x)
 
-  owner-range : (t : Tree) (x y i s j : ℕ) → SpecialWalk w t x y i s j → (x ≤ y) × (y ≤ x + below t)
+  pub owner-range : (t : Tree) (x y i s j : ℕ) → SpecialWalk w t x y i s j → (x ≤ y) × (y ≤ x + below t)
   owner-range (empty o) x y i s j h = absurd h
   owner-range (epsilon o) x y i s j h = absurd h
   owner-range (letter o c) x y i s j h = absurd h

@@ -1,0 +1,15 @@
+-- Laws of the owners.
+pub mod Rebuilt
+pub mod PartLaws
+pub mod SumLaws
+pub mod PlaceLaws
+pub mod Steps
+pub mod Walks
+pub mod Counting
+pub mod SideRows
+pub mod Walkers
+pub mod Tables
+pub mod Turning
+pub mod SideLaws
+pub mod RowLoops
+pub mod Settings

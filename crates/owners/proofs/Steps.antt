@@ -1,0 +1,280 @@
+-- A step over the arrays is a move of the rule, or several free ones; and each move is a step. Assumes nothing.
+use mathlib.Core.Path.{_≡_, refl, sym, ap, _∙_, subst}
+use mathlib.Core.Bool.{Bool, true, false≢true}
+use mathlib.Core.Logic.{_⊎_, inl, inr, ⊎-elim}
+use mathlib.Core.List.{List}
+use Prim.Native.Nat.{ℕ, zero, suc, _+_, _-_, _*_, _/_, _%_, _≤_, _<_}
+use native.Mathlib.Omega.{arith}
+use lib.Dec.{T}
+use lib.ListN.{length, getD, replicate}
+use Rattle.bits.specs.Bit.{bitAt, Adds}
+use Rattle.bits.proofs.Laws.{zeros-bit}
+use Rattle.event.proofs.Tests.{T-of, of-T}
+use Rattle.regex.specs.declared.Kind.{Kind}
+use Rattle.regex.specs.declared.Kind.the-variants.{Empty, Epsilon, Letter, Union, Intersection, Concatenation, Complement, Star}
+use Rattle.regex.specs.declared.Node.{Node}
+use Rattle.regex.specs.Tree.{Tree, empty, epsilon, letter, union, intersection, concatenation, complement, star, below, size, isSpecial}
+use Rattle.moves.specs.Reached.{Reached, start, after}
+use Rattle.moves.specs.Moves.{kindAt, specialKind, KindMove, RecordMove, FreeMove, Leads, LetterEntry, SpecialEntry}
+use Rattle.walk.specs.Automaton.{automaton, Step, FreeStep, LetterStep, SpanStep}
+use Rattle.work.specs.Span.{Obeys}
+use Rattle.work.specs.Walk.{entry, exit, Part, NodeMove, epsilon-through, letter-use, union-to-left, union-to-right, union-left-out, union-right-out}
+use Rattle.work.specs.Walk.{concatenation-in, concatenation-over, concatenation-out, star-in, star-skip, star-again, star-out, intersection-span}
+use Rattle.work.specs.Walk.{complement-span, RuleMove}
+use Rattle.work.specs.Table.{obeys}
+use Rattle.work.proofs.TableLaws.{obeys-eq}
+use Rattle.owners.specs.Filling.{Fillable, Recorded}
+use Rattle.owners.specs.Parts.{partAt}
+use Rattle.owners.specs.Sides.{Left}
+use Rattle.owners.specs.Places.{firstRow}
+use Rattle.owners.specs.Turns.{BlocksBelow, Setting}
+use Rattle.owners.proofs.PartLaws.{kindOf, Headed, headed, kind-is, special-is, part-within, part-kind, special-kind}
+use Rattle.owners.proofs.PlaceLaws.{row-of}
+
+-- a run that began as zeros has only what was added
+pub added : {P : ℕ → Type 0} {b : List ℕ} (n q : ℕ) → Adds (replicate n 0) P b → bitAt b q ≡ true → P q
+added n q h e = ⊎-elim (λ (z : bitAt (replicate n 0) q ≡ true). absurd (false≢true (sym (zeros-bit n q) ∙ z))) (λ z. z) (h .only q e)
+
+-- ---- a kind tells its letter
+letterOf : Kind → ℕ
+letterOf Empty = 0
+letterOf Epsilon = 0
+letterOf (Letter c) = suc c
+letterOf Union = 0
+letterOf Intersection = 0
+letterOf Concatenation = 0
+letterOf Complement = 0
+letterOf Star = 0
+
+module _ {t : Tree} {nodes : List Node} {m : ℕ} {lefts closed letters specials rows w lent : List ℕ}
+    (S : Setting t nodes m lefts closed letters specials rows w lent) where
+  recorded : Recorded t nodes m
+  recorded = S .fillable .recorded
+
+  few : m ≤ 64
+  few = S .fillable .recorded .few
+
+  -- ---- each step is a move
+  free-is : {u : Tree} {x a b : ℕ} (j s s′ : ℕ) → NodeMove w u x a j b j → s′ < 128 → b < 128 → 128 * s + s′ ≡ 128 * a + b
+      → NodeMove w u x s j s′ j
+  free-is {u} {x} {a} {b} j s s′ v h k e = let d : s ≡ a = omega arith in let d′ : s′ ≡ b = omega arith in rw (d, d′) v
+
+  kind-move : (u : Tree) (x l j s s′ : ℕ) → Left u x l → x + below u < 64 → s′ < 128 → KindMove (kindOf u) (x + below u) l (128 * s + s′)
+      → NodeMove w u x s j s′ j
+  kind-move (empty o) x l j s s′ g k h e = absurd e
+  kind-move (epsilon o) x l j s s′ g k h e = free-is j s s′ epsilon-through h (omega arith) (omega arith)
+  kind-move (letter o c) x l j s s′ g k h e = absurd e
+  kind-move (union o a b) x l j s s′ g k h (inl e) = free-is j s s′ union-to-left h (omega arith) (omega arith)
+  kind-move (union o a b) x l j s s′ g k h (inr (inl e)) = free-is j s s′ union-to-right h (omega arith) (omega arith)
+  kind-move (union o a b) x l j s s′ g k h (inr (inr (inl e))) = free-is j s s′ union-left-out h (omega arith) (omega arith)
+  kind-move (union o a b) x l j s s′ g k h (inr (inr (inr e))) = free-is j s s′ union-right-out h (omega arith) (omega arith)
+  kind-move (intersection o a b) x l j s s′ g k h e = absurd e
+  kind-move (concatenation o a b) x l j s s′ g k h (inl e) = free-is j s s′ concatenation-in h (omega arith) (omega arith)
+  kind-move (concatenation o a b) x l j s s′ g k h (inr (inl e)) = free-is j s s′ concatenation-over h (omega arith) (omega arith)
+  kind-move (concatenation o a b) x l j s s′ g k h (inr (inr e)) = free-is j s s′ concatenation-out h (omega arith) (omega arith)
+  kind-move (complement o a) x l j s s′ g k h e = absurd e
+  kind-move (star o a) x l j s s′ g k h (inl e) = free-is j s s′ star-in h (omega arith) (omega arith)
+  kind-move (star o a) x l j s s′ g k h (inr (inl e)) = free-is j s s′ star-skip h (omega arith) (omega arith)
+  kind-move (star o a) x l j s s′ g k h (inr (inr (inl e))) = free-is j s s′ star-again h (omega arith) (omega arith)
+  kind-move (star o a) x l j s s′ g k h (inr (inr (inr e))) = free-is j s s′ star-out h (omega arith) (omega arith)
+
+  -- the part that a record heads
+  at-record : (y : ℕ) → y < m → Headed t y
+  at-record y h = headed t y (omega (arith, recorded .long))
+
+  part-move : {y s j s′ n : ℕ} (h : Headed t y) → NodeMove w (partAt t y) (h .first) s j s′ n → RuleMove w t 0 s j s′ n
+  part-move {y} h v = record { part = partAt t y; first = h .first; within = h .within; move = v }
+
+  pub free-move : (s s′ j : ℕ) → FreeMove (S .moves .single) s s′ → RuleMove w t 0 s j s′ j
+  free-move s s′ j f =
+      let v = added 256 (128 * s + s′) (S .moves .moves) (f .move) in
+      let h = at-record (v .node) (v .within) in
+      let l = subst (λ (y : ℕ). Left (partAt t (v .node)) (h .first) (getD lefts y 0)) (sym (h .root)) (S .left _ (h .first) (h .within)) in
+      part-move h (kind-move (partAt t (v .node)) (h .first) (getD lefts (v .node) 0) j s s′ l (omega (arith, h .root, v .within, few)) (f .to)
+      (subst (λ (y : ℕ). KindMove (kindOf (partAt t (v .node))) y (getD lefts (v .node) 0) (128 * s + s′)) (h .root)
+      (subst (λ (k : Kind). KindMove k (v .node) (getD lefts (v .node) 0) (128 * s + s′)) (kind-is recorded (v .node) (v .within)) (v .move))))
+
+  letter-of : (u : Tree) (x j c : ℕ) → kindOf u ≡ Letter c → j < length w → getD w j 0 ≡ c → NodeMove w u x (entry u x) j (exit u x) (suc j)
+  unfolding letterOf
+  letter-of (empty o) x j c e h g = absurd (omega (arith, ap letterOf e))
+  letter-of (epsilon o) x j c e h g = absurd (omega (arith, ap letterOf e))
+  letter-of (letter o b) x j c e h g = let d : getD w j 0 ≡ b = omega (arith, ap letterOf e, g) in letter-use h d
+  letter-of (union o a b) x j c e h g = absurd (omega (arith, ap letterOf e))
+  letter-of (intersection o a b) x j c e h g = absurd (omega (arith, ap letterOf e))
+  letter-of (concatenation o a b) x j c e h g = absurd (omega (arith, ap letterOf e))
+  letter-of (complement o a) x j c e h g = absurd (omega (arith, ap letterOf e))
+  letter-of (star o a) x j c e h g = absurd (omega (arith, ap letterOf e))
+
+  span-of : (u : Tree) (x j n : ℕ) → T (isSpecial u) → Obeys w u j n → NodeMove w u x (entry u x) j (exit u x) n
+  span-of (empty o) x j n h g = absurd h
+  span-of (epsilon o) x j n h g = absurd h
+  span-of (letter o c) x j n h g = absurd h
+  span-of (union o a b) x j n h g = absurd h
+  span-of (intersection o a b) x j n h g = intersection-span g
+  span-of (concatenation o a b) x j n h g = absurd h
+  span-of (complement o a) x j n h g = complement-span g
+  span-of (star o a) x j n h g = absurd h
+
+  -- a move from a node's entry to its exit, by its states
+  through : {y : ℕ} (h : Headed t y) (p q j n : ℕ) → p % 128 ≡ 2 * y → q % 128 ≡ suc (2 * y) → p / 128 ≡ j → q / 128 ≡ n
+      → NodeMove w (partAt t y) (h .first) (entry (partAt t y) (h .first)) j (exit (partAt t y) (h .first)) n
+      → RuleMove w t 0 (p % 128) (p / 128) (q % 128) (q / 128)
+  through {y} h p q j n a b c d v =
+      let a′ : p % 128 ≡ entry (partAt t y) (h .first) = omega (arith, a, h .root) in
+      let b′ : q % 128 ≡ exit (partAt t y) (h .first) = omega (arith, b, h .root) in
+      rw (a′, b′, c, d) (part-move h v)
+
+  pub letter-move : (p q : ℕ) → LetterStep letters w p q → RuleMove w t 0 (p % 128) (p / 128) (q % 128) (q / 128)
+  letter-move p q f =
+      let c = getD w (p / 128) 0 in
+      let v = added 512 (128 * c + p % 128) (S .letter) (f .event) in
+      let a : (128 * c + p % 128) % 128 ≡ p % 128 = omega arith in
+      let b : (128 * c + p % 128) / 128 ≡ c = omega arith in
+      let l : p % 128 / 2 < m = rw a at (v .small) in
+      let k : kindAt nodes (p % 128 / 2) ≡ Letter c = rw (a, b) at (v .letter) in
+      let ev = v .even in
+      let e = f .exit in
+      let h = at-record (p % 128 / 2) l in
+      let odd : p % 128 % 2 ≡ 0 = omega arith in
+      through h p q (p / 128) (suc (p / 128)) (omega arith) (omega arith) refl (omega arith)
+      (letter-of (partAt t (p % 128 / 2)) (h .first) (p / 128) c (sym (kind-is recorded (p % 128 / 2) l) ∙ k) (f .within) refl)
+
+  -- the special node of an entry
+  pub special-entry : (s : ℕ) → bitAt specials s ≡ true → (s / 2 < m) × (s % 2 ≡ 0) × T (isSpecial (partAt t (s / 2)))
+  special-entry s e =
+      let v = added 2 s (S .special) e in
+      (v .small, v .even, T-of (isSpecial (partAt t (s / 2))) (sym (special-is recorded (s / 2) (v .small)) ∙ v .special))
+
+  pub row-here : {u : Tree} {x : ℕ} → Part t 0 u x → T (isSpecial u) → getD rows (x + below u) 0 ≡ firstRow t (length w) u
+  row-here p h = row-of t (length w) (S .fillable .rising) recorded (S .first) p h
+
+  -- the blocks below node k are there
+  module _ (k : ℕ) (done : BlocksBelow w lent t k) where
+    pub span-move : (p q : ℕ) → p % 128 < 2 * k → SpanStep specials rows lent (length w) p q
+        → RuleMove w t 0 (p % 128) (p / 128) (q % 128) (q / 128)
+    span-move p q z f =
+        let (l, ev, s) = special-entry (p % 128) (f .special) in
+        let y = p % 128 / 2 in
+        let u = partAt t (p % 128 / 2) in
+        let h = at-record (p % 128 / 2) l in
+        let e = f .exit in
+        let short = S .fillable .short in
+        let low = f .from in
+        let high = f .to in
+        let r : getD rows (p % 128 / 2) 0 ≡ firstRow t (length w) (partAt t (p % 128 / 2)) =
+        ap (λ (i : ℕ). getD rows i 0) (h .root) ∙ row-here (h .within) s in
+        let g = done (partAt t (p % 128 / 2)) (h .first) (h .within) s (omega (arith, h .root)) (p / 128) (q / 128) (omega arith) (omega arith) in
+        through h p q (p / 128) (q / 128) (omega arith) (omega arith) refl refl
+        (span-of (partAt t (p % 128 / 2)) (h .first) (p / 128) (q / 128) s
+        (obeys-eq w (partAt t (p % 128 / 2)) (p / 128) (q / 128) .0
+        (T-of (obeys w (partAt t (p % 128 / 2)) (p / 128) (q / 128)) (sym g ∙ rw r at (f .span)))))
+
+    -- ---- each move is a step
+    abbrev Stepping : ℕ → ℕ → Type 0
+    Stepping = Step (automaton closed letters specials rows w lent)
+
+    free-step : {u : Tree} {x : ℕ} (s s′ j : ℕ) → Part t 0 u x → s < 128 → s′ < 128
+        → KindMove (kindOf u) (x + below u) (getD lefts (x + below u) 0) (128 * s + s′) → Stepping (128 * j + s) (128 * j + s′)
+    free-step {u} {x} s s′ j p a b h =
+        let e : (128 * j + s) % 128 ≡ s = omega arith in
+        let e′ : (128 * j + s′) % 128 ≡ s′ = omega arith in
+        let v : RecordMove nodes lefts m (128 * s + s′) = record {
+          node = x + below u;
+          within = part-within recorded p;
+          move = subst (λ (k : Kind). KindMove k (x + below u) (getD lefts (x + below u) 0) (128 * s + s′)) (sym (part-kind recorded p)) h;
+        } in
+        inl (record {
+          number = omega arith;
+          move = rw (e, e′) (S .moves .closed .all s s′ a
+              (after (start refl) (record { from = a; to = b; move = S .moves .moves .new (128 * s + s′) v })));
+        })
+
+    span-step : {u : Tree} {x : ℕ} (j n : ℕ) → Part t 0 u x → T (isSpecial u) → x + below u < k → Obeys w u j n
+        → Stepping (128 * j + entry u x) (128 * n + exit u x)
+    span-step {u} {x} j n p h l o =
+        let z = part-within recorded p in
+        let f = few in
+        let e : (128 * j + entry u x) % 128 ≡ 2 * (x + below u) = omega arith in
+        let d : (128 * j + entry u x) / 128 ≡ j = omega arith in
+        let d′ : (128 * n + exit u x) / 128 ≡ n = omega arith in
+        let y : 2 * (x + below u) / 2 ≡ x + below u = omega arith in
+        let short = S .fillable .short in
+        let low = o .order in
+        let high = o .inside in
+        let g = done u x p h l j n (omega arith) (omega arith) ∙ of-T (obeys w u j n) (obeys-eq w u j n .1 o) in
+        inr (inr (record {
+          exit = omega arith;
+          from = rw (d, d′) low;
+          to = rw d′ high;
+          special = rw e (S .special .new (2 * (x + below u)) (record {
+            small = rw y z;
+            even = omega arith;
+            special = rw y (ap specialKind (part-kind recorded p) ∙ special-kind u ∙ of-T (isSpecial u) h);
+          }));
+          span = rw (e, y, d, d′, row-here p h) g;
+        }))
+
+    letter-step : (o c x j : ℕ) → Part t 0 (letter o c) x → j < length w → getD w j 0 ≡ c
+        → Stepping (128 * j + entry (letter o c) x) (128 * suc j + exit (letter o c) x)
+    letter-step o c x j p h g =
+        let z = part-within recorded p in
+        let f = few in
+        let y = x + below (letter o c) in
+        let e : (128 * j + entry (letter o c) x) % 128 ≡ 2 * (x + below (letter o c)) = omega arith in
+        let d : (128 * j + entry (letter o c) x) / 128 ≡ j = omega arith in
+        let a : (128 * c + 2 * (x + below (letter o c))) % 128 / 2 ≡ x + below (letter o c) =
+        let b : (128 * c + 2 * (x + below (letter o c))) % 128 ≡ 2 * (x + below (letter o c)) = omega arith in rw b (omega arith) in
+        let b : (128 * c + 2 * (x + below (letter o c))) / 128 ≡ c = omega arith in
+        inr (inl (record {
+          exit = omega arith;
+          within = rw d h;
+          event = rw (d, e, g) (S .letter .new (128 * c + 2 * (x + below (letter o c))) (record {
+            small = rw a z;
+            even = omega arith;
+            letter = rw (a, b) (part-kind recorded p);
+          }));
+        }))
+
+    node-step : {u : Tree} {x s j s′ n : ℕ} → NodeMove w u x s j s′ n → Part t 0 u x → s < 2 * k → Stepping (128 * j + s) (128 * n + s′)
+    node-step (epsilon-through {o} {x} {j}) p l =
+        let z = part-within recorded p in let f = few in
+        free-step _ _ j p (omega arith) (omega arith) (omega arith)
+    node-step (letter-use {o} {c} {x} {j} h e) p l = letter-step o c x j p h e
+    node-step (union-to-left {o} {x} {j} {a} {b}) p l =
+        let z = part-within recorded p in let f = few in let g = S .left _ x p in
+        free-step _ _ j p (omega arith) (omega arith) (inl (omega arith))
+    node-step (union-to-right {o} {x} {j} {a} {b}) p l =
+        let z = part-within recorded p in let f = few in let g = S .left _ x p in
+        free-step _ _ j p (omega arith) (omega arith) (inr (inl (omega arith)))
+    node-step (union-left-out {o} {x} {j} {a} {b}) p l =
+        let z = part-within recorded p in let f = few in let g = S .left _ x p in
+        free-step _ _ j p (omega arith) (omega arith) (inr (inr (inl (omega arith))))
+    node-step (union-right-out {o} {x} {j} {a} {b}) p l =
+        let z = part-within recorded p in let f = few in let g = S .left _ x p in
+        free-step _ _ j p (omega arith) (omega arith) (inr (inr (inr (omega arith))))
+    node-step (concatenation-in {o} {x} {j} {a} {b}) p l =
+        let z = part-within recorded p in let f = few in let g = S .left _ x p in
+        free-step _ _ j p (omega arith) (omega arith) (inl (omega arith))
+    node-step (concatenation-over {o} {x} {j} {a} {b}) p l =
+        let z = part-within recorded p in let f = few in let g = S .left _ x p in
+        free-step _ _ j p (omega arith) (omega arith) (inr (inl (omega arith)))
+    node-step (concatenation-out {o} {x} {j} {a} {b}) p l =
+        let z = part-within recorded p in let f = few in let g = S .left _ x p in
+        free-step _ _ j p (omega arith) (omega arith) (inr (inr (omega arith)))
+    node-step (star-in {o} {x} {j} {a}) p l =
+        let z = part-within recorded p in let f = few in
+        free-step _ _ j p (omega arith) (omega arith) (inl (omega arith))
+    node-step (star-skip {o} {x} {j} {a}) p l =
+        let z = part-within recorded p in let f = few in
+        free-step _ _ j p (omega arith) (omega arith) (inr (inl (omega arith)))
+    node-step (star-again {o} {x} {j} {a}) p l =
+        let z = part-within recorded p in let f = few in
+        free-step _ _ j p (omega arith) (omega arith) (inr (inr (inl (omega arith))))
+    node-step (star-out {o} {x} {j} {a}) p l =
+        let z = part-within recorded p in let f = few in
+        free-step _ _ j p (omega arith) (omega arith) (inr (inr (inr (omega arith))))
+    node-step (intersection-span {o} {x} {j} {k = n} {a} {b} h) p l = span-step j n p tt (omega arith) h
+    node-step (complement-span {o} {x} {j} {k = n} {a} h) p l = span-step j n p tt (omega arith) h
+
+    pub move-step : {s j s′ n : ℕ} → RuleMove w t 0 s j s′ n → s < 2 * k → Stepping (128 * j + s) (128 * n + s′)
+    move-step v l = node-step (v .move) (v .within) l

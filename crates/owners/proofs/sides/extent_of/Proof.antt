@@ -1,0 +1,23 @@
+-- `extent_of` finds a part's first record and its left side. Assumes nothing.
+use native.Mathlib.Omega.{arith}
+use borrow.Author.Needs.{needs}
+use Rattle.owners.proofs.sides.extent_of.Statement.{statement}
+use Rattle.owners.proofs.sides.extent_of.Tie as tie
+
+pub extent-of-spec : {M : Type 1} → statement M
+extent-of-spec =
+    tie.close (tie.spec
+    (λ c. let z = c .before .pre .one (c .if1 .taken) in omega arith)
+    (λ c. search needs)
+    (λ c. search needs)
+    (λ c. let z = c .before .pre .one (c .if1 .taken) in omega arith)
+    (λ c. search needs)
+    (λ c. let z = c .before .before .pre .two (c .if2 .taken) in omega arith)
+    (λ c. search needs)
+    (λ c. search needs)
+    (λ c. let z = c .before .before .pre .two (c .if2 .taken) in omega (arith, z .1))
+    (λ c. let z = c .before .before .pre .two (c .if2 .taken) in omega (arith, z .2))
+    (λ c. let z = c .before .before .pre .two (c .if2 .taken) in omega (arith, z .1, z .2))
+    (λ c. let z = c .before .before .pre .two (c .if2 .taken) in omega (arith, z .1))
+    (λ c. search needs)
+    (λ c. search needs))

@@ -1,0 +1,7 @@
+-- What `fill` is given and makes: the definitions to believe.
+pub mod Filling
+-- What the private functions do.
+pub mod Parts
+pub mod Sides
+pub mod Places
+pub mod Turns

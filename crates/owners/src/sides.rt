@@ -1,0 +1,70 @@
+// The left or only side of each node, found from the records.
+use regex::Kind;
+use regex::Node;
+ghost use mathlib.Core.Path.{_≡_};
+ghost use Rattle.owners.specs.Filling.{treeFrom, Recorded};
+ghost use Rattle.owners.specs.Sides.{sidesOf, SidesKnown, SidesFound, Lefts};
+
+// How many sides a node of this kind has.
+fn sides_of(k: Kind) -> usize
+    ensures { λ r. ⌜ r ≡ sidesOf k ⌝ }
+{
+    match k {
+        Kind::Empty => 0,
+        Kind::Epsilon => 0,
+        Kind::Letter(_) => 0,
+        Kind::Union => 2,
+        Kind::Intersection => 2,
+        Kind::Concatenation => 2,
+        Kind::Complement => 1,
+        Kind::Star => 1,
+    }
+}
+
+// Where a part's records begin, and its left or only side, 0 where it has none.
+pub struct Extent {
+    pub first: usize,
+    pub left: usize,
+}
+
+// The extent of node i's part, from where those of the nodes before it begin.
+fn extent_of(firsts: [usize; 64], sides: usize, i: usize) -> Extent
+    requires { ⌜ SidesKnown firsts sides i ⌝ }
+    ensures { λ r. ⌜ SidesFound firsts sides i (r .first) (r .left) ⌝ }
+{
+    if sides == 1 {
+        let f = firsts[i - 1];
+        return Extent {
+            first: f,
+            left: i - 1,
+        };
+    }
+    if sides == 2 {
+        let r = firsts[i - 1];
+        let f = firsts[r - 1];
+        return Extent {
+            first: f,
+            left: r - 1,
+        };
+    }
+    Extent { first: i, left: 0 }
+}
+
+// The left or only side of each node.
+pub fn left_sides(nodes: [Node; 64], m: usize) -> [usize; 64]
+    requires { ⌜ Recorded (treeFrom nodes m) nodes m ⌝ }
+    ensures { λ r. ⌜ Lefts (treeFrom nodes m) r ⌝ }
+{
+    let mut firsts = [0usize; 64];
+    let mut lefts = [0usize; 64];
+    let mut i = 0;
+    while i < m {
+        let node = nodes[i];
+        let k = node.kind;
+        let e = extent_of(firsts, sides_of(k), i);
+        firsts[i] = e.first;
+        lefts[i] = e.left;
+        i += 1;
+    }
+    lefts
+}

@@ -1,0 +1,42 @@
+-- `fill_start` walks from one start, and writes its row. Assumes nothing.
+use mathlib.Core.Path.{refl, sym, _∙_}
+use mathlib.Core.Bool.{true≢false}
+use borrow.Author.Needs.{needs}
+use Rattle.bits.proofs.Laws.{put-adds, adds-then}
+use Rattle.rows.proofs.RowLaws.{starts-at, started}
+use Rattle.rows.proofs.starts.fill_start.Statement.{statement}
+use Rattle.rows.proofs.starts.fill_start.Tie as tie
+
+pub fill-start-spec : {M : Type 1} → statement M
+fill-start-spec =
+    tie.close (tie.spec
+    (λ c. search needs) (λ c. search needs) (λ c. search needs) (λ c. search needs) (λ c κs. search needs)
+    (λ c. search needs) (λ c. search needs) (λ c. search needs) (λ c. search needs) (λ c κs. search needs)
+    (λ c. search needs)
+    (λ c κs.
+    let v = c .before .before .before in
+    let s = c .before .before .before .before .before .before .before .before .before .before .before .before .before .before in
+    let a = s .args in
+    let p = s .pre .1 in
+    let q = p .1 in
+    let b = adds-then (put-adds (v .before .before .before .put .ensures .1)) (put-adds (v .put2 .ensures .1)) in
+    (s .pre .0, ((b .long, p .0 .2, q .4), starts-at (a .i) (a .x) (a .y) (q .0) (q .1) (q .2) (q .3) b)))
+    (λ c. search needs)
+    (λ c.
+    let v = c .before .before .before .before .before .before in
+    let a = c .before .before .before .before .before .before .before .before .before .before .before .before .before .before .before .before .before .args in
+    started (a .r) (a .i) (a .x) (a .y) (a .flip) (adds-then (put-adds (v .before .before .before .put .ensures .1)) (put-adds (v .put2 .ensures .1)))
+    (c .before .before .walk .ensures) (λ f. absurd (true≢false (sym (c .if1 .taken) ∙ f))) (λ f. refl))
+    (λ c. search needs)
+    (λ c κs.
+    let s = c .before .before .before .before .before .before .before .before .before .before .before .before .before .before .before .before .before .before .before in
+    let p = s .pre .1 in
+    let w = s .pre .0 .word in
+    ((p .0 .0, p .0 .1, c .before .before .before .before .walk .ensures .long ∙ c .before .before .before .before .before .before .before .before .put2 .ensures .1 .long ∙ c .before .before .before .before .before .before .before .before .before .before .before .put .ensures .1 .long), (p .0 .2, w, p .1 .1, p .1 .3)))
+    (λ c. search needs)
+    (λ c.
+    let u = c .before .before .before .before .before .before .before in
+    let v = u .before .before .before .before in
+    let a = v .before .before .before .before .before .before .before .before .before .before .before .args in
+    started (a .r) (a .i) (a .x) (a .y) (a .flip) (adds-then (put-adds (v .before .before .before .put .ensures .1)) (put-adds (v .put2 .ensures .1)))
+    (u .walk .ensures) (λ f. c .before .before .write-row .ensures) (λ f. absurd (true≢false (sym f ∙ c .before .before .before .before .before .if1 .left)))))

@@ -1,0 +1,11 @@
+-- `move_up` doubles a number. Assumes nothing.
+use native.Mathlib.Omega.{arith}
+use Rattle.walk.proofs.EventLaws.{top-clear, up-law}
+use Rattle.walk.proofs.events.move_up.Statement.{statement}
+use Rattle.walk.proofs.events.move_up.Tie as tie
+
+pub move-up-spec : {M : Type 1} → statement M
+move-up-spec =
+    tie.close (tie.spec
+    (λ c. let h = top-clear (c .args .x) (omega arith) (c .pre) in omega arith)
+    (λ c. up-law _))

@@ -1,0 +1,17 @@
+-- `first_missing` finds a state that one set has and another lacks. Assumes nothing.
+use borrow.Author.Needs.{needs}
+use native.Mathlib.Omega.{arith}
+use Rattle.walk.proofs.SetLaws.{missing-low, missing-high}
+use Rattle.walk.proofs.sets.first_missing.Statement.{statement}
+use Rattle.walk.proofs.sets.first_missing.Tie as tie
+
+pub first-missing-spec : {M : Type 1} → statement M
+first-missing-spec =
+    tie.close (tie.spec
+    (λ c. search needs) (λ c. search needs) (λ c κs. search needs)
+    (λ c. missing-low _ _ _ (c .before .first .ensures) (c .if1 .taken))
+    (λ c. search needs) (λ c. search needs) (λ c κs. search needs)
+    (λ c. let h = c .first2 .ensures .within in omega arith)
+    (λ c.
+    let d = c .before .before .before in
+    missing-high _ _ _ (d .before .first .ensures) _ (c .first2 .ensures) (d .if1 .left)))

@@ -1,0 +1,12 @@
+-- `ones` counts the bits that are set. Assumes nothing.
+use lib.Count.{ones-le}
+use native.Mathlib.Omega.{arith}
+use Rattle.walk.proofs.Tallies.{ones-tally}
+use Rattle.walk.proofs.sets.ones.Statement.{statement}
+use Rattle.walk.proofs.sets.ones.Tie as tie
+
+pub ones-spec : {M : Type 1} → statement M
+ones-spec =
+    tie.close (tie.spec
+    (λ c. let h = ones-le 64 (c .args .x) (omega arith) in omega arith)
+    (λ c. (ones-tally (c .args .x) (omega arith), ones-le 64 (c .args .x) (omega arith))))

@@ -1,0 +1,181 @@
+-- What the private functions do to the sets of states, marks and exits that they are lent. A set of states is a run of two numbers: its
+-- state s is bit s. An exit to come is bit 256 * i + k: node i is left at number k. Assumes nothing.
+use Prim.Native.Nat.{ℕ, _+_, _-_, _*_, _/_, _%_, _≤_, _<_}
+use mathlib.Core.Path.{_≡_}
+use mathlib.Core.Logic.{_⊎_}
+use mathlib.Core.List.{List}
+use mathlib.Core.Bool.{Bool, true, false}
+use lib.ListN.{length, getD}
+use Rattle.bits.specs.Bit.{hasBit, bitAt, tallyBelow, Adds}
+use Rattle.moves.specs.Reached.{Reached}
+use Rattle.moves.specs.Moves.{FreeMove}
+use Rattle.walk.specs.Automaton.{Automaton, Step}
+
+-- ---- sets of states
+
+-- r is a state of a that b lacks, or 128 where there is none
+pub record Missing (a b : List ℕ) (r : ℕ) : Type 0 where
+  pub within : r ≤ 128
+  pub there : r < 128 → bitAt a r ≡ true
+  pub fresh : r < 128 → bitAt b r ≡ false
+  pub none : r ≡ 128 → (s : ℕ) → s < 128 → bitAt a s ≡ true → bitAt b s ≡ true
+
+-- r has the states that a and b have
+pub record Common (a b r : List ℕ) : Type 0 where
+  pub both : (s : ℕ) → s < 128 → bitAt a s ≡ true → bitAt b s ≡ true → bitAt r s ≡ true
+  pub left : (s : ℕ) → s < 128 → bitAt r s ≡ true → bitAt a s ≡ true
+  pub right : (s : ℕ) → s < 128 → bitAt r s ≡ true → bitAt b s ≡ true
+
+-- q is a state of the set
+pub record StateOf (set : List ℕ) (q : ℕ) : Type 0 where
+  pub small : q < 128
+  pub there : bitAt set q ≡ true
+
+-- t is q, if the run has bit p
+abbrev pub PutIf : (a : List ℕ) (p q t : ℕ) → Type 0
+PutIf a p q t = (t ≡ q) × (bitAt a p ≡ true)
+
+-- the states of a are among those of b
+abbrev pub Among : (a b : List ℕ) → Type 0
+Among a b = (s : ℕ) → s < 128 → bitAt a s ≡ true → bitAt b s ≡ true
+
+-- ---- sets at a number
+
+-- r has the states that are marked at number j
+abbrev pub StatesAt : (marks : List ℕ) (j : ℕ) (r : List ℕ) → Type 0
+StatesAt marks j r = (s : ℕ) → s < 128 → bitAt r s ≡ bitAt marks (128 * j + s)
+
+-- q is the place of a state of the set, at number j
+pub record PlaceOf (set : List ℕ) (j q : ℕ) : Type 0 where
+  pub number : q / 128 ≡ j
+  pub there : bitAt set (q % 128) ≡ true
+
+-- nothing is marked at number j, and no special node is open
+pub record AtRest (marks opened : List ℕ) (j : ℕ) : Type 0 where
+  pub marked : (s : ℕ) → s < 128 → bitAt marks (128 * j + s) ≡ true → ⊥
+  pub coming : (s : ℕ) → s < 128 → bitAt opened s ≡ true → ⊥
+
+-- ---- free moves
+
+-- a state of a leads to t, and all that it leads to is in e
+pub record LedFrom (c a e : List ℕ) (t : ℕ) : Type 0 where
+  pub by : ℕ
+  pub small : by < 128
+  pub there : bitAt a by ≡ true
+  pub leads : bitAt c (128 * by + t) ≡ true
+  pub rest : (u : ℕ) → u < 128 → bitAt c (128 * by + u) ≡ true → bitAt e u ≡ true
+
+-- e is d with all that the states of a lead to
+pub record Followed (c a d e : List ℕ) : Type 0 where
+  pub all : (s : ℕ) → s < 128 → bitAt a s ≡ true → bitAt e s ≡ true
+  pub old : (s : ℕ) → bitAt d s ≡ true → bitAt e s ≡ true
+  pub only : (t : ℕ) → t < 128 → bitAt e t ≡ true → (bitAt d t ≡ true) ⊎ LedFrom c a e t
+  pub long : length e ≡ length d
+
+-- e is d with all that the states of number w of a lead to
+pub record FollowedWord (c a : List ℕ) (w : ℕ) (d e : List ℕ) : Type 0 where
+  pub all : (b : ℕ) → b < 64 → bitAt a (64 * w + b) ≡ true → bitAt e (64 * w + b) ≡ true
+  pub old : (s : ℕ) → bitAt d s ≡ true → bitAt e s ≡ true
+  pub only : (t : ℕ) → t < 128 → bitAt e t ≡ true → (bitAt d t ≡ true) ⊎ LedFrom c a e t
+  pub long : length e ≡ length d
+
+-- ---- exits to come
+
+-- q is an exit of node i by row r of the table
+pub record RowExit (table : List ℕ) (r i q : ℕ) : Type 0 where
+  pub node : q / 256 ≡ i
+  pub span : bitAt table (256 * r + q % 256) ≡ true
+
+-- t is the exit of an open node that is left at number j
+pub record DueExit (exits opened : List ℕ) (j t : ℕ) : Type 0 where
+  pub entry : ℕ
+  pub exit : t ≡ entry + 1
+  pub small : entry < 128
+  pub known : bitAt opened entry ≡ true
+  pub bit : bitAt exits (128 * entry + j) ≡ true
+
+-- the place q is an exit to come
+pub record Pending (exits : List ℕ) (q : ℕ) : Type 0 where
+  pub odd : q % 2 ≡ 1
+  pub bit : bitAt exits (128 * (q % 128 - 1) + q / 128) ≡ true
+
+-- the exits to come are of open nodes
+abbrev pub OfOpen : (exits opened : List ℕ) → Type 0
+OfOpen x v = (q : ℕ) → q < 16384 → bitAt x q ≡ true → bitAt v (2 * (q / 256)) ≡ true
+
+-- ---- events
+
+-- r is x moved up by one bit
+pub record MovedUp (x r : ℕ) : Type 0 where
+  pub on : (b : ℕ) → b < 63 → hasBit (b + 1) r ≡ hasBit b x
+  pub zero : hasBit 0 r ≡ false
+
+-- q is the place, at the number after j, of the exit of a letter that the event e is and whose entry is in the set
+pub record LetterExit (letters set : List ℕ) (j e q : ℕ) : Type 0 where
+  pub state : ℕ
+  pub small : state < 128
+  pub exit : q ≡ 128 * j + state + 129
+  pub there : bitAt set state ≡ true
+  pub event : bitAt letters (128 * e + state) ≡ true
+
+-- q is such a place for event j of the word, if there is one
+abbrev pub NextExit : (letters word set : List ℕ) (j q : ℕ) → Type 0
+NextExit letters word set j q = (j < length word) × LetterExit letters set j (getD word j 0) q
+
+-- ---- the states of one number
+
+-- from a special node's entry to its exit, at one number j
+pub record SpanHere (specials rows table : List ℕ) (j s t : ℕ) : Type 0 where
+  pub small : s < 128
+  pub special : bitAt specials s ≡ true
+  pub exit : t ≡ s + 1
+  pub span : bitAt table (256 * (getD rows (s / 2) 0 + j) + j) ≡ true
+
+-- the steps that stay at one number j
+abbrev pub StepHere : (c specials rows table : List ℕ) (j s t : ℕ) → Type 0
+StepHere c specials rows table j s t = FreeMove c s t ⊎ SpanHere specials rows table j s t
+
+-- q is an exit to come of a special node whose entry is in e, at number j
+pub record SpanExit (specials rows table : List ℕ) (j : ℕ) (e : List ℕ) (q : ℕ) : Type 0 where
+  pub small : q < 16384
+  pub entry : bitAt e (2 * (q / 256)) ≡ true
+  pub special : bitAt specials (2 * (q / 256)) ≡ true
+  pub span : bitAt table (256 * (getD rows (q / 256) 0 + j) + q % 256) ≡ true
+
+-- e has the states that are reached at number j from those of a, and y is x with the exits to come of the special nodes entered
+pub record Saturated (c specials rows table : List ℕ) (j : ℕ) (a x e y : List ℕ) : Type 0 where
+  pub all : Among a e
+  pub only : (s : ℕ) → s < 128 → bitAt e s ≡ true → Reached (StateOf a) (StepHere c specials rows table j) s
+  pub free : (s t : ℕ) → FreeMove c s t → bitAt e s ≡ true → bitAt e t ≡ true
+  pub here : (s t : ℕ) → SpanHere specials rows table j s t → bitAt e s ≡ true → bitAt e t ≡ true
+  pub exits : Adds x (SpanExit specials rows table j e) y
+
+-- ---- one number of a walk
+
+-- q is an exit to come of a special node whose entry is marked at number j
+pub record MarkedExit (t : Automaton) (marks : List ℕ) (j q : ℕ) : Type 0 where
+  pub small : q < 16384
+  pub entry : bitAt marks (128 * j + 2 * (q / 256)) ≡ true
+  pub special : bitAt (t .specials) (2 * (q / 256)) ≡ true
+  pub span : bitAt (t .table) (256 * (getD (t .rows) (q / 256) 0 + j) + q % 256) ≡ true
+
+-- p is marked, or is an exit to come at number j
+abbrev pub Given : (marks exits : List ℕ) (j p : ℕ) → Type 0
+Given a x j p = (bitAt a p ≡ true) ⊎ ((p / 128 ≡ j) × Pending x p)
+
+-- after number j the marks a are b, the exits to come x are y, and the open nodes' entries v are u
+pub record Levelled (t : Automaton) (j count limit : ℕ) (a x v b y u : List ℕ) (c : ℕ) (spent : Bool) : Type 0 where
+  pub old : (q : ℕ) → bitAt a q ≡ true → bitAt b q ≡ true
+  pub below : (q : ℕ) → q / 128 < j → bitAt b q ≡ true → bitAt a q ≡ true
+  pub only : (q : ℕ) → bitAt b q ≡ true → Reached (Given a x j) (Step t) q
+  pub above : (q : ℕ) → bitAt b q ≡ true → (bitAt a q ≡ true) ⊎ (q / 128 ≤ j + 1)
+  pub waiting : (p : ℕ) → p / 128 ≡ j → Pending x p → bitAt b p ≡ true
+  pub exits : Adds x (MarkedExit t b j) y
+  pub closed : spent ≡ false → (p q : ℕ) → p / 128 ≡ j → bitAt b p ≡ true → Step t p q → (bitAt b q ≡ true) ⊎ ((j < q / 128) × Pending y q)
+  pub known : spent ≡ false → OfOpen y u
+  pub inside : Among u (t .specials)
+  pub counted : spent ≡ false → c ≡ count + tallyBelow 128 (λ (s : ℕ). bitAt b (128 * j + s))
+  pub full : spent ≡ true → limit < count + tallyBelow 128 (λ (s : ℕ). bitAt b (128 * j + s))
+  pub bounded : c ≤ limit
+  pub long : length b ≡ length a
+  pub two : length u ≡ length v
