@@ -1,7 +1,7 @@
-//! The line that answers a case: what the reader says, and what its buffers hold afterwards.
+//! The line that answers a case: what the call says, and what its buffers hold afterwards.
 
 use crate::stream::Case;
-use crate::{day, printed};
+use crate::{day, judge, printed};
 
 /// The found and count of both readers' answers, which are always 0.
 const FOUND_AND_COUNT: &str = "0\t0";
@@ -15,6 +15,12 @@ pub fn line(case: &Case) -> String {
             seconds,
             bytes,
         } => day_line(bytes, lent_letters(*letters), lent_seconds(*seconds)),
+        Case::Judge {
+            table,
+            limit,
+            rule,
+            word,
+        } => judge_line(rule, word, *limit, lent_table(*table)),
     }
 }
 
@@ -35,6 +41,18 @@ fn day_line(bytes: &[u8], mut letters: Vec<u8>, mut seconds: Vec<u32>) -> String
     format!("day\t{number}\t{place}\t{FOUND_AND_COUNT}\t{n}\t{letters}\t{seconds}\n")
 }
 
+/// The line of answer to a judge call that writes the table.
+fn judge_line(rule: &[u8], word: &[u8], limit: u64, mut table: Vec<u64>) -> String {
+    let judge::Answer {
+        number,
+        place,
+        found,
+        count,
+    } = judge::judge(rule, word, limit, &mut table);
+    let table = printed::list(printed::runs(&table), ",");
+    format!("judge\t{number}\t{place}\t{found}\t{count}\t{table}\n")
+}
+
 /// A buffer of letters as it is lent: every element tells its place, and none is an event.
 fn lent_letters(length: usize) -> Vec<u8> {
     (128..=255).cycle().take(length).collect()
@@ -43,4 +61,9 @@ fn lent_letters(length: usize) -> Vec<u8> {
 /// A buffer of seconds as it is lent: every element tells its place, and none is a day's second.
 fn lent_seconds(length: usize) -> Vec<u32> {
     (100_000..).take(length).collect()
+}
+
+/// A table as it is lent: every number tells its place, and no two are alike.
+fn lent_table(length: usize) -> Vec<u64> {
+    (0..length as u64).map(|i| u64::MAX - i).collect()
 }

@@ -2,14 +2,26 @@
 
 use crate::random::Random;
 use crate::stream::{Case, MAX_STREAM_BYTES};
-use crate::{random_days, random_rules};
+use crate::{random_calls, random_days, random_rules};
+
+/// What draws one random case.
+type Draw = fn(&mut Random) -> Case;
+
+/// What draws the cases of a kind, if there is one of that name.
+pub fn kind(name: &str) -> Option<Draw> {
+    match name {
+        "readers" => Some(reader_case),
+        "judge" => Some(random_calls::case),
+        _ => None,
+    }
+}
 
 /// A stream of so many random cases, or of fewer if one more would pass the limit on its bytes.
-pub fn stream(seed: u64, count: usize) -> Vec<u8> {
+pub fn stream(seed: u64, count: usize, draw: Draw) -> Vec<u8> {
     let mut random = Random::new(seed);
     let mut stream = Vec::new();
     for _ in 0..count {
-        let case = random_case(&mut random).written();
+        let case = draw(&mut random).written();
         if stream.len() + case.len() > MAX_STREAM_BYTES {
             break;
         }
@@ -19,7 +31,7 @@ pub fn stream(seed: u64, count: usize) -> Vec<u8> {
 }
 
 /// A rule or a day, each as often as the other.
-fn random_case(random: &mut Random) -> Case {
+fn reader_case(random: &mut Random) -> Case {
     if random.one_in(2) {
         Case::Rule(random_rules::text(random))
     } else {

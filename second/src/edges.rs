@@ -1,10 +1,16 @@
 //! The cases that the command `edges` prints.
 
 use crate::stream::Case;
-use crate::{day_edges, rule_edges};
+use crate::{day_edges, judge_edges, judge_large_edges, known_edges, rule_edges};
 
-/// Document 01's edges for the reader of rules, then those for the reader of days.
-pub fn all() -> Vec<Case> {
-    let rules = rule_edges::texts().into_iter().map(Case::Rule);
-    rules.chain(day_edges::cases()).collect()
+/// Document 01's edges by the name of their stream, if there is one of that name.
+pub fn named(name: &str) -> Option<Vec<Case>> {
+    match name {
+        "rules" => Some(rule_edges::texts().into_iter().map(Case::Rule).collect()),
+        "days" => Some(day_edges::cases()),
+        "judge" => Some(judge_edges::cases()),
+        "judge-large" => Some(judge_large_edges::cases()),
+        "known" => Some(known_edges::cases()),
+        _ => None,
+    }
 }

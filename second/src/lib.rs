@@ -2,6 +2,7 @@
 //! written from documents 01 and 004 alone, to be compared with the program that is proved.
 
 pub mod answers;
+pub mod calls;
 pub mod cases;
 pub mod day;
 pub mod day_edges;
@@ -10,11 +11,15 @@ pub mod edges;
 pub mod generate;
 pub mod job;
 pub mod judge;
+pub mod judge_edges;
+pub mod judge_large_edges;
+pub mod known_edges;
 pub mod language;
 pub mod limits;
 pub mod lines;
 pub mod printed;
 pub mod random;
+pub mod random_calls;
 pub mod random_days;
 pub mod random_rules;
 pub mod refusal;

@@ -7,44 +7,53 @@ use std::os::fd::AsFd;
 use std::process::ExitCode;
 
 use second::random::Random;
+use second::stream::Case;
 use second::{answers, cases, draw, edges, job, stream};
 
 const USAGE: &str = "usage: second < JOB
        second cases SEED COUNT MAX_RULE_BYTES MAX_WORD
        second readings SEED COUNT MAX_BYTES
        second answers < CASES
-       second edges
-       second draw SEED COUNT";
+       second edges rules|days|judge|judge-large|known
+       second draw SEED COUNT readers|judge";
 
 fn main() -> io::Result<ExitCode> {
     let arguments: Vec<String> = env::args().skip(1).collect();
-    let Some((command, numbers)) = arguments.split_first() else {
-        run_job()?;
-        return Ok(ExitCode::SUCCESS);
+    let arguments: Vec<&str> = arguments.iter().map(String::as_str).collect();
+    run_command(&arguments).unwrap_or_else(|| {
+        eprintln!("{USAGE}");
+        Ok(ExitCode::from(2))
+    })
+}
+
+/// Does what the arguments ask for; none if they are not as the usage says.
+fn run_command(arguments: &[&str]) -> Option<io::Result<ExitCode>> {
+    let done = match *arguments {
+        [] => run_job(),
+        ["cases", seed, count, rule_bytes, word_length] => {
+            let (bytes, length) = (number(rule_bytes)?, number(word_length)?);
+            let line = |random: &mut Random| cases::case_line(random, bytes, length);
+            print_lines(number(seed)?, number(count)?, line)
+        }
+        ["readings", seed, count, most_bytes] => {
+            let bytes = number(most_bytes)?;
+            let line = |random: &mut Random| cases::reading_line(random, bytes);
+            print_lines(number(seed)?, number(count)?, line)
+        }
+        ["answers"] => return Some(answer_cases()),
+        ["edges", name] => print_cases(&edges::named(name)?),
+        ["draw", seed, count, kind] => {
+            let stream = draw::stream(number(seed)? as u64, number(count)?, draw::kind(kind)?);
+            io::stdout().write_all(&stream)
+        }
+        _ => return None,
     };
-    let numbers: Option<Vec<usize>> = numbers.iter().map(|text| text.parse().ok()).collect();
-    match (command.as_str(), numbers.as_deref()) {
-        ("cases", Some(&[seed, count, rule_bytes, word_length])) => {
-            print_lines(seed, count, |random| {
-                cases::case_line(random, rule_bytes, word_length)
-            })?;
-        }
-        ("readings", Some(&[seed, count, most_bytes])) => {
-            print_lines(seed, count, |random| {
-                cases::reading_line(random, most_bytes)
-            })?;
-        }
-        ("answers", Some([])) => return answer_cases(),
-        ("edges", Some([])) => print_edges()?,
-        ("draw", Some(&[seed, count])) => {
-            io::stdout().write_all(&draw::stream(seed as u64, count))?;
-        }
-        _ => {
-            eprintln!("{USAGE}");
-            return Ok(ExitCode::from(2));
-        }
-    }
-    Ok(ExitCode::SUCCESS)
+    Some(done.map(|()| ExitCode::SUCCESS))
+}
+
+/// The number that an argument is.
+fn number(argument: &str) -> Option<usize> {
+    argument.parse().ok()
 }
 
 /// Answers one job from standard input on standard output.
@@ -87,10 +96,10 @@ fn answer_cases() -> io::Result<ExitCode> {
     Ok(ExitCode::FAILURE)
 }
 
-/// Prints the cases of document 01's edges.
-fn print_edges() -> io::Result<()> {
+/// Prints a stream of cases.
+fn print_cases(cases: &[Case]) -> io::Result<()> {
     let mut output = BufWriter::new(io::stdout().lock());
-    for case in edges::all() {
+    for case in cases {
         output.write_all(&case.written())?;
     }
     output.flush()

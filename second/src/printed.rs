@@ -1,4 +1,4 @@
-//! How readings and lists look in the lines that the commands print.
+//! How readings, tables and lists look in the lines that the commands print.
 
 use crate::rule::{self, Kind, Rule};
 
@@ -24,6 +24,15 @@ pub fn list(items: impl Iterator<Item = String>, separator: &str) -> String {
     } else {
         items.join(separator)
     }
+}
+
+/// The numbers of a table, where a run of equal neighbours is one item with its length.
+pub fn runs(table: &[u64]) -> impl Iterator<Item = String> + '_ {
+    let item = |run: &[u64]| match run.len() {
+        1 => run[0].to_string(),
+        length => format!("{}*{length}", run[0]),
+    };
+    table.chunk_by(|one, next| one == next).map(item)
 }
 
 /// The records of a rule as `offset:kind`.

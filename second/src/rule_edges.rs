@@ -162,8 +162,8 @@ pub fn texts() -> Vec<Vec<u8>> {
     texts.extend(as_bytes(NO_SENTENCES));
     texts.extend(FOREIGN.map(<[u8]>::to_vec));
     texts.extend((0..=255).map(|byte| vec![byte]));
-    texts.extend(texts_of_signs(2));
-    texts.extend(texts_of_signs(3));
+    texts.extend(texts_of(&SIGNS, 2));
+    texts.extend(texts_of(&SIGNS, 3));
     texts.extend(about_nodes());
     texts.extend(about_special_nodes());
     texts.extend(about_order());
@@ -173,16 +173,16 @@ pub fn texts() -> Vec<Vec<u8>> {
 }
 
 /// Document 004's Example 1 as document 01 writes it.
-fn example_1() -> Vec<u8> {
+pub fn example_1() -> Vec<u8> {
     "((ttt)*t&(tttt)*ttt)bt*".replace('t', "(a|b)").into()
 }
 
 /// Every text of so many of the signs.
-fn texts_of_signs(length: usize) -> Vec<Vec<u8>> {
+pub fn texts_of(signs: &[u8], length: usize) -> Vec<Vec<u8>> {
     let mut texts = vec![Vec::new()];
     for _ in 0..length {
-        let longer = |text: &Vec<u8>| SIGNS.map(|sign| [&text[..], &[sign]].concat());
-        texts = texts.iter().flat_map(longer).collect();
+        let longer = |text: Vec<u8>| signs.iter().map(move |&sign| [&text[..], &[sign]].concat());
+        texts = texts.into_iter().flat_map(longer).collect();
     }
     texts
 }
@@ -295,7 +295,7 @@ fn about_length() -> Vec<Vec<u8>> {
 }
 
 /// A text so many times over.
-fn run(text: &str, times: usize) -> Vec<u8> {
+pub fn run(text: &str, times: usize) -> Vec<u8> {
     text.repeat(times).into()
 }
 

@@ -1,12 +1,13 @@
 //! The judge call: the table number by number, refusals 7 to 10, and what each does to the table.
 
+#[path = "common/blocks.rs"]
+mod blocks;
 mod common;
 
-use common::literal_spans;
+use blocks::expected_table;
 use second::generate::{alphabet, sentence, word, Bounds};
 use second::judge::{judge, Answer};
 use second::random::Random;
-use second::rule::read;
 
 /// What a table holds before a call, so that any touch shows.
 const DIRT: u64 = 0xdead_beef_0123_4567;
@@ -25,31 +26,6 @@ fn refused(number: u32, place: usize) -> Answer {
         found: 0,
         count: 0,
     }
-}
-
-/// The needed numbers as document 01 words them, from the definition of the language.
-fn expected_table(text: &[u8], word: &[u8]) -> Vec<u64> {
-    let rule = read(text).unwrap();
-    let spans = literal_spans(&rule, word);
-    let signs = (0..text.len()).filter(|&offset| matches!(text[offset], b'&' | b'!'));
-    let at = |offset: usize| {
-        let mut nodes = rule.nodes.iter();
-        nodes
-            .position(|node| node.offset == offset && node.kind.is_special())
-            .unwrap()
-    };
-    let heads: Vec<usize> = std::iter::once(rule.m() - 1).chain(signs.map(at)).collect();
-    let mut table = Vec::new();
-    for head in heads {
-        for row in &spans[head] {
-            let mut numbers = [0u64; 4];
-            for (j, _) in row.iter().enumerate().filter(|(_, &obeys)| obeys) {
-                numbers[j / 64] += 2u64.pow(j as u32 % 64);
-            }
-            table.extend(numbers);
-        }
-    }
-    table
 }
 
 /// A random rule text and word.

@@ -1,8 +1,10 @@
 //! The work count: against a count made of languages alone, its owners, and its bound.
 
 mod common;
+#[path = "common/count.rs"]
+mod count;
 
-use common::{join, literal_spans, relation, Relation};
+use count::count_by_languages;
 use second::generate::{alphabet, sentence, word, Bounds};
 use second::job::limit;
 use second::judge::judge;
@@ -17,52 +19,9 @@ const WIDEST: Bounds = Bounds {
     special: 7,
 };
 
-/// The full work count of a rule and a word.
-fn count(rule: &Rule, word: &[u8]) -> u64 {
+/// The full work count of a rule and a word, by the search.
+fn count_by_search(rule: &Rule, word: &[u8]) -> u64 {
     Automaton::new(rule, word, &spans_of_nodes(rule, word)).work_count()
-}
-
-/// The count without any search.
-///
-/// The entry of a node is reached from i at j exactly if the span (i, j) can stand before the node,
-/// and its exit if the span can stand before the node and through it.
-fn count_by_languages(rule: &Rule, word: &[u8]) -> u64 {
-    let n = word.len();
-    let spans = literal_spans(rule, word);
-    let nothing = relation(n, |i, j| i == j);
-    let mut before: Vec<Relation> = vec![nothing.clone(); rule.m()];
-    // Sides come earlier in the list, so from the back each node is met before its sides.
-    for node in (0..rule.m()).rev() {
-        let own = before[node].clone();
-        match rule.nodes[node].kind {
-            Kind::Union(left, right) => {
-                before[left] = own.clone();
-                before[right] = own;
-            }
-            Kind::Concatenation(left, right) => {
-                before[right] = join(&own, &spans[left]);
-                before[left] = own;
-            }
-            Kind::Star(inner) => before[inner] = join(&own, &spans[node]),
-            // A special node's sides are searched for themselves, with nothing before them.
-            Kind::Intersection(..) | Kind::Complement(_) => {}
-            Kind::NoWord | Kind::EmptyWord | Kind::Letter(_) => {}
-        }
-    }
-    let exits = before
-        .iter()
-        .zip(&spans)
-        .map(|(before, through)| join(before, through));
-    before.iter().map(ones).sum::<u64>() + exits.map(|exit| ones(&exit)).sum::<u64>()
-}
-
-/// How many spans a relation has.
-fn ones(relation: &Relation) -> u64 {
-    relation
-        .iter()
-        .flatten()
-        .filter(|&&belongs| belongs)
-        .count() as u64
 }
 
 /// The innermost special node that strictly contains a node, or the whole rule.
@@ -87,7 +46,7 @@ fn the_count_is_what_the_languages_give() {
         let rule = read(&sentence(&mut random, letters, &WIDEST)).unwrap();
         let word = word(&mut random, letters, 9);
         assert_eq!(
-            count(&rule, &word),
+            count_by_search(&rule, &word),
             count_by_languages(&rule, &word),
             "{rule:?} {word:?}"
         );
@@ -112,7 +71,11 @@ fn counts_worked_out_by_hand() {
     ];
     for (text, word, expected) in cases {
         let rule = read(text.as_bytes()).unwrap();
-        assert_eq!(count(&rule, word.as_bytes()), expected, "{text} on {word}");
+        assert_eq!(
+            count_by_search(&rule, word.as_bytes()),
+            expected,
+            "{text} on {word}"
+        );
     }
 }
 
@@ -150,7 +113,7 @@ fn the_count_never_passes_the_programs_limit() {
         let rule = read(&text).unwrap();
         let (m, n) = (rule.m() as u64, word.len() as u64);
         let bound = m * (n + 1) * (n + 2);
-        assert!(count(&rule, &word) <= bound);
+        assert!(count_by_search(&rule, &word) <= bound);
         assert_eq!(limit(rule.m(), word.len()), bound);
         let mut table = vec![0; 8 * (word.len() + 1) * 4];
         let answer = judge(&text, &word, limit(rule.m(), word.len()), &mut table);
@@ -171,7 +134,7 @@ fn the_largest_rules_and_words_keep_the_bound() {
         }
         let rule = read(&text).unwrap();
         let word: Vec<u8> = (0..255).map(|_| random.pick(b"ab")).collect();
-        assert!(count(&rule, &word) <= limit(rule.m(), 255));
+        assert!(count_by_search(&rule, &word) <= limit(rule.m(), 255));
     }
 }
 

@@ -1,8 +1,12 @@
 // Takes the cases apart.
+use crate::judgements::answer_judge;
 use crate::show::answer_day;
 use crate::show::answer_rule;
 ghost use Prim.Native.Nat.{_≤_};
 ghost use lib.ListN.{length};
+
+// The largest limit.
+const MOST: u64 = 18446744073709551615;
 
 // A number in a text, and the offset behind its digits.
 struct Number {
@@ -33,6 +37,41 @@ fn number_at(s: &[u8], from: usize) -> Number
         value = value * 10 + digit_of(b);
     }
     Number {
+        value: value,
+        end: s.len(),
+    }
+}
+
+// A limit in a text, and the offset behind its digits.
+struct Limit {
+    value: u64,
+    end: usize,
+}
+
+// The limit that begins at an offset; it stops before a digit that would pass 64 bits.
+fn limit_at(s: &[u8], from: usize) -> Limit
+    requires { ⌜ from ≤ length (now s) ⌝ }
+    ensures { λ r. ⌜ r .end ≤ length (now (s .entry)) ⌝ }
+{
+    let mut value: u64 = 0;
+    for i in from..s.len() {
+        let b = s[i];
+        if b < b'0' || b'9' < b || MOST / 10 < value {
+            return Limit {
+                value: value,
+                end: i,
+            };
+        }
+        let digit = digit_of(b) as u64;
+        if MOST - value * 10 < digit {
+            return Limit {
+                value: value,
+                end: i,
+            };
+        }
+        value = value * 10 + digit;
+    }
+    Limit {
         value: value,
         end: s.len(),
     }
@@ -82,15 +121,60 @@ fn day_case(s: &[u8]) -> usize {
     to + 1
 }
 
+// Answers a judge's case at the front, `judge TABLE LIMIT RULE WORD`, and gives its length; 0 where it is not whole.
+fn judge_case(s: &[u8]) -> usize {
+    if s.len() < 6 {
+        return 0;
+    }
+    let table = number_at(s, 6);
+    if s.len() <= table.end {
+        return 0;
+    }
+    let limit = limit_at(s, table.end + 1);
+    if s.len() <= limit.end {
+        return 0;
+    }
+    let used = judge_texts(&s[limit.end + 1..], table.value, limit.value);
+    if used == 0 {
+        return 0;
+    }
+    limit.end + 1 + used
+}
+
+// Answers the rest of a judge's case, `RULE WORD` and the two texts, and gives its length; 0 where it is not whole.
+fn judge_texts(s: &[u8], table: usize, limit: u64) -> usize
+    ensures { λ r. ⌜ r ≤ length (now (s .entry)) ⌝ }
+{
+    let rule = number_at(s, 0);
+    if s.len() <= rule.end {
+        return 0;
+    }
+    let word = number_at(s, rule.end + 1);
+    if s.len() <= word.end {
+        return 0;
+    }
+    let from = word.end + 1;
+    if s.len() - from <= rule.value {
+        return 0;
+    }
+    let middle = from + rule.value;
+    if s.len() - middle <= word.value {
+        return 0;
+    }
+    let to = middle + word.value;
+    answer_judge(&s[from..middle], &s[middle..to], table, limit);
+    to + 1
+}
+
 // Answers the case at the front and gives its length; 0 where it is not whole.
 fn answer_case(s: &[u8]) -> usize {
     if s.len() == 0 {
         return 0;
     }
-    if s[0] == b'r' {
-        rule_case(s)
-    } else {
-        day_case(s)
+    match s[0] {
+        b'r' => rule_case(s),
+        b'j' => judge_case(s),
+        _ => day_case(s),
     }
 }
 

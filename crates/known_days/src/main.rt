@@ -1,6 +1,7 @@
-// Runs cases from standard input through the public calls and prints the answers: the two readers on the edges of document 01.
+// Runs cases from standard input through the public calls and prints the answers: the two readers and the judge on the edges of document 01.
 // second/README.md says how cases and answers are written.
 mod cases;
+mod judgements;
 mod show;
 
 fn main() {

@@ -6,12 +6,12 @@ use rule::Outcome as RuleOutcome;
 ghost use mathlib.Core.Path.{_≡_};
 ghost use lib.ListN.{length};
 
-fn print(text: &[u8]) {
+pub fn print(text: &[u8]) {
     io::write_all(1, text);
 }
 
 // A number behind a sign.
-fn print_number(sign: u8, n: usize) {
+pub fn print_number(sign: u8, n: usize) {
     print(&[sign]);
     io::print_decimal(1, n as u64);
 }

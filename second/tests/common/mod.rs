@@ -37,13 +37,19 @@ pub fn literal_spans(rule: &Rule, word: &[u8]) -> Vec<Relation> {
 }
 
 /// The powers 0 to n + 1 together; a word of n events has at most n factors that are not empty.
+///
+/// A power that adds nothing ends it: what the next one adds would be added to the powers before.
 fn union_of_powers(inner: &Relation) -> Relation {
     let n = inner.len() - 1;
     let mut power = relation(n, |i, j| i == j);
     let mut all = power.clone();
     for _ in 0..=n {
         power = join(&power, inner);
-        all = relation(n, |i, j| all[i][j] | power[i][j]);
+        let more = relation(n, |i, j| all[i][j] | power[i][j]);
+        if more == all {
+            break;
+        }
+        all = more;
     }
     all
 }

@@ -1,4 +1,4 @@
-//! The command `answers`: the form of streams and lines, and streams that are no good.
+//! The command `answers` for the readers, and streams and arguments that are no good.
 
 use crate::{answer_lines, letters_after, run, seconds_after};
 
@@ -77,7 +77,7 @@ fn the_highest_numbers_of_a_header_are_taken() {
 }
 
 /// Streams that have no whole case at their beginning.
-const NO_CASES: [&[u8]; 33] = [
+const NO_CASES: [&[u8]; 53] = [
     b"\n",
     b"x",
     b"x\n",
@@ -111,6 +111,26 @@ const NO_CASES: [&[u8]; 33] = [
     b"day 100000 0 0\n\n",
     b"day 0 100000 0\n\n",
     b"day 00 0 0\n\n",
+    b"judge\n",
+    b"judge 0 0 0\n\n",
+    b"judge 0 0 0 0",
+    b"judge 0 0 0 0\n",
+    b"judge 0 0 0 0 0\n\n",
+    b"judge 0 0 1 1\na\n",
+    b"judge 0 0 1 1\naa",
+    b"judge 0 0 1 1\naaa\n",
+    b"judge 0 0 1 1\na\na\n",
+    b"judge 100000 0 0 0\n\n",
+    b"judge 0 18446744073709551616 0 0\n\n",
+    b"judge 0 00 0 0\n\n",
+    b"judge 0 01 0 0\n\n",
+    b"judge 0 +1 0 0\n\n",
+    b"judge 0 -1 0 0\n\n",
+    b"judge 0  0 0\n\n",
+    b"judge 00 0 0 0\n\n",
+    b"judge 0 0 00 0\n\n",
+    b"judge 0 0 0 00\n\n",
+    b"Judge 0 0 0 0\n\n",
 ];
 
 #[test]
@@ -152,19 +172,28 @@ fn a_stream_cut_off_anywhere_fails_except_between_cases() {
 fn wrong_arguments_are_told_the_usage() {
     for arguments in [
         "answers 1",
+        "edges",
         "edges 1",
         "edges x",
+        "edges judge 1",
         "draw",
         "draw 1",
+        "draw 1 2",
         "draw 1 2 3",
-        "draw x 2",
-        "draw 1 -2",
+        "draw 1 2 days",
+        "draw x 2 judge",
+        "draw 1 -2 judge",
+        "draw 1 2 judge 3",
     ] {
         let output = run(arguments, b"");
         assert_eq!(output.status.code(), Some(2), "{arguments}");
         assert!(output.stdout.is_empty());
         let message = String::from_utf8(output.stderr).unwrap();
-        for usage in ["second answers", "second edges", "second draw SEED COUNT"] {
+        for usage in [
+            "second answers < CASES",
+            "second edges rules|days|judge|judge-large|known",
+            "second draw SEED COUNT readers|judge",
+        ] {
             assert!(message.contains(usage));
         }
     }

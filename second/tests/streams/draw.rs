@@ -1,4 +1,4 @@
-//! The command `draw`: its size, that a seed fixes it, and that it comes to every limit.
+//! The command `draw` for the readers: its size, that a seed fixes it, and every limit it meets.
 
 use crate::{answered, cases, check_answer, numbers, stream, Case};
 
@@ -7,7 +7,7 @@ const SEEDS: [usize; 8] = [1, 2, 3, 4, 5, 6, 7, 8];
 
 /// A stream as long as the limit lets it be.
 fn longest(seed: usize) -> Vec<u8> {
-    stream(&format!("draw {seed} 1000000"))
+    stream(&format!("draw {seed} 1000000 readers"))
 }
 
 /// All cases of the seeds, with their answers.
@@ -28,9 +28,12 @@ fn has(bytes: &[u8], part: &[u8]) -> bool {
 
 #[test]
 fn there_are_as_many_cases_as_asked_for() {
-    assert!(stream("draw 3 0").is_empty());
+    assert!(stream("draw 3 0 readers").is_empty());
     for count in [1, 2, 17, 60] {
-        assert_eq!(cases(&stream(&format!("draw 3 {count}"))).len(), count);
+        assert_eq!(
+            cases(&stream(&format!("draw 3 {count} readers"))).len(),
+            count
+        );
     }
 }
 
@@ -50,7 +53,7 @@ fn the_stream_ends_with_the_last_whole_case_that_fits() {
 fn a_seed_fixes_the_stream() {
     assert_eq!(longest(1), longest(1));
     assert_ne!(longest(1), longest(2));
-    let (short, long) = (stream("draw 9 40"), stream("draw 9 80"));
+    let (short, long) = (stream("draw 9 40 readers"), stream("draw 9 80 readers"));
     assert!(long.starts_with(&short) && long.len() > short.len());
 }
 

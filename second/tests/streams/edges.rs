@@ -1,10 +1,15 @@
-//! The command `edges`: answers that document 01 gives by hand, and that nothing is left out.
+//! The command `edges` for the readers: answers that document 01 gives by hand, nothing left out.
 
-use crate::{answered, check_answer, letters_after, numbers, seconds_after, stream, Case};
+use crate::{answered, cases, check_answer, letters_after, numbers, seconds_after, stream, Case};
 
-/// The edges with their answers.
+/// The edges of both readers with their answers.
 fn edges() -> Vec<(Case, String)> {
-    answered(&stream("edges"))
+    let names = ["edges rules", "edges days"];
+    names
+        .map(|name| answered(&stream(name)))
+        .into_iter()
+        .flatten()
+        .collect()
 }
 
 /// The answer to a rule text; it must be among the edges.
@@ -569,6 +574,12 @@ fn every_answer_is_sound_by_itself() {
 }
 
 #[test]
-fn the_stream_stays_below_65536_bytes() {
-    assert!(stream("edges").len() < 65_536);
+fn each_stream_has_one_kind_and_at_most_65536_bytes() {
+    for (name, kind) in [("rules", "rule"), ("days", "day")] {
+        let stream = stream(&format!("edges {name}"));
+        assert!(stream.len() <= 65_536);
+        let cases = cases(&stream);
+        assert!(cases.len() > 900, "{} cases", cases.len());
+        assert!(cases.iter().all(|case| case.header[0] == kind));
+    }
 }

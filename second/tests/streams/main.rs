@@ -4,10 +4,21 @@ use std::io::Write;
 use std::process::{Command, Output, Stdio};
 
 mod answers;
+#[path = "../common/blocks.rs"]
+mod blocks;
+#[path = "../common/mod.rs"]
+mod common;
+#[path = "../common/count.rs"]
+mod count;
 mod draw;
 mod edges;
+mod judge;
+mod judge_answers;
+mod judge_draw;
+mod judge_edges;
+mod known_edges;
 
-/// A case as a stream holds it: the fields of its header but the length, and its bytes.
+/// A case as a stream holds it: the fields of its header but the last length, and its bytes.
 struct Case {
     header: Vec<String>,
     bytes: Vec<u8>,
@@ -55,7 +66,11 @@ fn cases(mut stream: &[u8]) -> Vec<Case> {
         let end = stream.iter().position(|&byte| byte == b'\n').unwrap();
         let header = String::from_utf8(stream[..end].to_vec()).unwrap();
         let mut header: Vec<String> = header.split(' ').map(String::from).collect();
-        let length: usize = header.pop().unwrap().parse().unwrap();
+        let length_of = |field: &String| -> usize { field.parse().unwrap() };
+        let mut length = length_of(&header.pop().unwrap());
+        if header[0] == "judge" {
+            length += length_of(&header[3]);
+        }
         let rest = &stream[end + 1..];
         let bytes = rest[..length].to_vec();
         assert_eq!(rest[length], b'\n');
@@ -81,7 +96,7 @@ fn answered(stream: &[u8]) -> Vec<(Case, String)> {
     cases.into_iter().zip(lines).collect()
 }
 
-/// How often each number stands in the answers, accepted cases of both readers under 0.
+/// How often each number stands in the answers, accepted cases under 0.
 fn numbers(answered: &[(Case, String)]) -> [usize; 17] {
     let mut times = [0; 17];
     for (_, line) in answered {
