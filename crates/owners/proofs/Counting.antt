@@ -56,7 +56,6 @@ module _ (u : Owner) (i : ℕ) where
     into : (p : Visit) → Of u i (Flat (bitAt marks) (128 * (n + 1))) p → Of u i X p
     into p h =
         let l = h .2 .0 in
-        let q = 128 * p .used + p .state in
         let a : (128 * p .used + p .state) % 128 ≡ p .state = omega arith in
         let b : (128 * p .used + p .state) / 128 ≡ p .used = omega arith in
         let x = only (128 * p .used + p .state) (of-T (bitAt marks (128 * p .used + p .state)) (h .2 .2)) in
@@ -76,7 +75,6 @@ module _ (u : Owner) (i : ℕ) where
         out : (p : Visit) → Of u i X p → Of u i (Flat (bitAt marks) (128 * (n + 1))) p
         out p h =
             let (l, k) = bound (p .state) (p .used) (h .2) in
-            let q = 128 * p .used + p .state in
             let a : (128 * p .used + p .state) % 128 ≡ p .state = omega arith in
             let b : (128 * p .used + p .state) / 128 ≡ p .used = omega arith in
             let x : X ((128 * p .used + p .state) % 128) ((128 * p .used + p .state) / 128) =

@@ -1,11 +1,10 @@
 -- Every record heads a part, whose root it tells of. Assumes nothing.
 use mathlib.Core.Path.{_≡_, refl, sym, ap, _∙_, subst}
-use mathlib.Core.Bool.{Bool, true, false}
-use mathlib.Core.Logic.{_⊎_, ⊎-elim}
+use mathlib.Core.Logic.{⊎-elim}
 use mathlib.Core.List.{List, [], _∷_, _++_, map, map-append}
-use Prim.Native.Nat.{ℕ, suc, _+_, _-_, _≤_, _<_}
+use Prim.Native.Nat.{ℕ, _+_, _-_, _≤_, _<_}
 use native.Mathlib.Omega.{arith}
-use lib.ListN.{length, getD, length-append, List·getD-append, List·getD-map}
+use lib.ListN.{length, getD, length-map, length-append, List·getD-append, List·getD-map}
 use lib.Seq.{getD-append-add, getD-at}
 use Rattle.bits.proofs.Digits.{below-or-not}
 use Rattle.regex.specs.declared.Kind.{Kind}
@@ -15,7 +14,8 @@ use Rattle.regex.specs.Tree.{Tree, empty, epsilon, letter, union, intersection,
 use Rattle.regex.specs.Tree.{isSpecial, records}
 use Rattle.regex.proofs.RecordLaws.{records-length}
 use Rattle.moves.specs.Moves.{noNode, kindAt, specialKind}
-use Rattle.work.specs.Walk.{Part, itself, union-left, union-right, intersection-left, intersection-right, concatenation-left, concatenation-right}
+use Rattle.work.specs.Walk.{Part, itself, union-left, union-right, intersection-left, intersection-right, concatenation-left}
+use Rattle.work.specs.Walk.{concatenation-right}
 use Rattle.work.specs.Walk.{complement-inner, star-inner}
 use Rattle.work.proofs.Moves.{part-range, part-part}
 use Rattle.owners.specs.Filling.{Recorded}
@@ -33,9 +33,11 @@ kindOf (concatenation o a b) = Concatenation
 kindOf (complement o a) = Complement
 kindOf (star o a) = Star
 
+-- the record of a part's root
 abbrev nodeOf : Tree → Node
 nodeOf u = record { offset = offset u; kind = kindOf u }
 
+-- a part is special if its root's kind is
 pub special-kind : (u : Tree) → specialKind (kindOf u) ≡ isSpecial u
 special-kind (empty o) = refl
 special-kind (epsilon o) = refl
@@ -50,7 +52,7 @@ special-kind (star o a) = refl
 two-map : (f : Tree → Node) (l m : List Tree) (u : Tree) → map f (l ++ m ++ (u ∷ [])) ≡ map f l ++ map f m ++ (f u ∷ [])
 two-map f l m u = map-append f (l ++ m) (u ∷ []) ∙ ap (_++ (f u ∷ [])) (map-append f l m)
 
--- its records
+-- the records are those of the parts
 parts-records : (t : Tree) → map nodeOf (allParts t) ≡ records t
 unfolding allParts records
 parts-records (empty o) = refl
@@ -65,8 +67,9 @@ parts-records (concatenation o a b) =
 parts-records (complement o a) = map-append nodeOf (allParts a) (complement o a ∷ []) ∙ rw (parts-records a) refl
 parts-records (star o a) = map-append nodeOf (allParts a) (star o a ∷ []) ∙ rw (parts-records a) refl
 
+-- as many parts as records
 pub all-length : (t : Tree) → length (allParts t) ≡ size t
-all-length t = sym (lib.ListN.length-map (allParts t) nodeOf) ∙ ap length (parts-records t) ∙ records-length t
+all-length t = sym (length-map (allParts t) nodeOf) ∙ ap length (parts-records t) ∙ records-length t
 
 -- a part stands at its root's record
 module _ (l m : List Tree) (u : Tree) where
@@ -120,27 +123,31 @@ pub part-at : {t u : Tree} {x : ℕ} → Part t 0 u x → partAt t (x + below u)
 part-at {t} {u} {x} p = part-in p (x + below u) (omega arith)
 
 -- ---- every record heads a part
+-- y is the root of a part of t, whose records stand from x on
 record Sited (t : Tree) (x y : ℕ) : Type 0 where
   part : Tree
   first : ℕ
   within : Part t x part first
   root : y ≡ first + below part
 
+-- a part of a side is a part
+in-side : {t a : Tree} {x z y : ℕ} → Part t x a z → Sited a z y → Sited t x y
+in-side p s = record { part = s .part; first = s .first; within = part-part p (s .within); root = s .root }
+
 -- found in a side, or the root
 module _ (t : Tree) (x y : ℕ) (h : x ≤ y) (k : y < x + size t) where
   of-sides : (a b : Tree) → below t ≡ size a + size b → Part t x a x → Part t x b (x + size a) → (y < x + size a → Sited a x y)
       → (x + size a ≤ y → y < x + size a + size b → Sited b (x + size a) y) → Sited t x y
   of-sides a b e l r f g =
-      ⊎-elim (λ (i : y < x + size a). let s = f i in record { part = s .part; first = s .first; within = part-part l (s .within); root = s .root })
+      ⊎-elim (λ (i : y < x + size a). in-side l (f i))
       (λ (i : x + size a ≤ y). ⊎-elim
-      (λ (j : y < x + size a + size b). let s = g i j in
-      record { part = s .part; first = s .first; within = part-part r (s .within); root = s .root })
+      (λ (j : y < x + size a + size b). in-side r (g i j))
       (λ (j : x + size a + size b ≤ y). record { part = t; first = x; within = itself; root = omega arith })
       (below-or-not y (x + size a + size b))) (below-or-not y (x + size a))
 
   of-side : (a : Tree) → below t ≡ size a → Part t x a x → (y < x + size a → Sited a x y) → Sited t x y
   of-side a e l f =
-      ⊎-elim (λ (i : y < x + size a). let s = f i in record { part = s .part; first = s .first; within = part-part l (s .within); root = s .root })
+      ⊎-elim (λ (i : y < x + size a). in-side l (f i))
       (λ (i : x + size a ≤ y). record { part = t; first = x; within = itself; root = omega arith }) (below-or-not y (x + size a))
 
 sited : (t : Tree) (x y : ℕ) → x ≤ y → y < x + size t → Sited t x y
@@ -148,7 +155,8 @@ sited (empty o) x y h k = record { part = empty o; first = x; within = itself; r
 sited (epsilon o) x y h k = record { part = epsilon o; first = x; within = itself; root = omega arith }
 sited (letter o c) x y h k = record { part = letter o c; first = x; within = itself; root = omega arith }
 sited (union o a b) x y h k =
-    of-sides (union o a b) x y h k a b refl (union-left itself) (union-right itself) (λ i. sited a x y h i) (λ i j. sited b (x + size a) y i j)
+    of-sides (union o a b) x y h k a b refl (union-left itself) (union-right itself) (λ i. sited a x y h i)
+    (λ i j. sited b (x + size a) y i j)
 sited (intersection o a b) x y h k =
     of-sides (intersection o a b) x y h k a b refl (intersection-left itself) (intersection-right itself) (λ i. sited a x y h i)
     (λ i j. sited b (x + size a) y i j)

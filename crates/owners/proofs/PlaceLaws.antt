@@ -1,5 +1,5 @@
 -- The blocks of the special parts stand by rising offset, apart from each other and within the table. Assumes nothing.
-use mathlib.Core.Path.{_≡_, refl, sym, ap, _∙_, subst}
+use mathlib.Core.Path.{_≡_, refl, sym, ap, _∙_}
 use mathlib.Core.Bool.{Bool, true, false, cond}
 use mathlib.Core.Logic.{_⊎_, inl, inr, ⊎-elim}
 use mathlib.Core.List.{List, [], _∷_, List·Memᴰ, List·Memᴰ·head, List·Memᴰ·tail, List·Memᴰ·not-nil, List·Memᴰ·cases-cons}
@@ -22,14 +22,15 @@ use Rattle.work.proofs.TableLaws.{parts-length}
 use Rattle.owners.specs.Filling.{Recorded}
 use Rattle.owners.specs.Parts.{partAt, sumOver}
 use Rattle.owners.specs.Places.{FirstRows, partsBefore, firstRow}
-use Rattle.owners.proofs.PartLaws.{part-at, part-within, Headed, headed}
+use Rattle.owners.proofs.PartLaws.{part-at, part-within, headed}
 use Rattle.owners.proofs.SumLaws.{row-is}
 
 -- ---- a list's members and their numbers
 index-of : (u : Tree) (l : List Tree) → List·Memᴰ u l → (b : ℕ) × (b < length l) × (getD l b (empty 0) ≡ u)
 index-of u [] m = absurd (List·Memᴰ·not-nil m)
 index-of u (v ∷ l) m =
-    ⊎-elim (λ (e : u ≡ v). (0, omega arith, sym e)) (λ k. let (b, h, e) = index-of u l k in (suc b, omega arith, e)) (List·Memᴰ·cases-cons m)
+    ⊎-elim (λ (e : u ≡ v). (0, omega arith, sym e)) (λ k. let (b, h, e) = index-of u l k in (suc b, omega arith, e))
+    (List·Memᴰ·cases-cons m)
 
 member-at : (l : List Tree) (b : ℕ) → b < length l → List·Memᴰ (getD l b (empty 0)) l
 member-at [] b h = absurd (omega arith)

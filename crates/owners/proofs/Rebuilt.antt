@@ -28,8 +28,10 @@ rebuilt-records (intersection o a b) st l =
 rebuilt-records (concatenation o a b) st l =
     ap (rebuilt st) (regroup (records a) (records b) (nodeRecord o Concatenation) l)
     ∙ rebuilt-records a st (records b ++ (nodeRecord o Concatenation ++ l)) ∙ rebuilt-records b (a ∷ st) (nodeRecord o Concatenation ++ l)
-rebuilt-records (complement o a) st l = ap (rebuilt st) (append-assoc (records a) (nodeRecord o Complement) l) ∙ rebuilt-records a st (nodeRecord o Complement ++ l)
-rebuilt-records (star o a) st l = ap (rebuilt st) (append-assoc (records a) (nodeRecord o Star) l) ∙ rebuilt-records a st (nodeRecord o Star ++ l)
+rebuilt-records (complement o a) st l =
+    ap (rebuilt st) (append-assoc (records a) (nodeRecord o Complement) l) ∙ rebuilt-records a st (nodeRecord o Complement ++ l)
+rebuilt-records (star o a) st l =
+    ap (rebuilt st) (append-assoc (records a) (nodeRecord o Star) l) ∙ rebuilt-records a st (nodeRecord o Star ++ l)
 
 -- the tree that is rebuilt from the records of t is t
 pub tree-from : (t : Tree) (nodes : List Node) (m : ℕ) → Recorded t nodes m → treeFrom nodes m ≡ t

@@ -1,17 +1,17 @@
 -- The first rows of the blocks, found one after the other. Assumes nothing.
-use mathlib.Core.Path.{_≡_, refl, sym, ap, _∙_}
+use mathlib.Core.Path.{_≡_, refl, ap, _∙_}
 use mathlib.Core.Bool.{true, false, _&&_}
 use mathlib.Core.Logic.{⊎-elim}
 use mathlib.Core.List.{List}
-use Prim.Native.Nat.{ℕ, zero, suc, _+_, _*_, _≤_, _<_}
+use Prim.Native.Nat.{ℕ, _+_, _*_, _≤_, _<_}
 use native.Mathlib.Omega.{arith}
 use native.Mathlib.Numerals.{add-one}
 use native.Mathlib.Nat.{mul-le-mul}
 use lib.Dec.{ltb}
-use lib.ListN.{length, getD, set, replicate, length-set}
+use lib.ListN.{length, getD, set, replicate, length-set, getD-replicate, List·getD-eq-default}
 use lib.Seq.{getD-set-same, getD-set-other}
 use Rattle.bits.specs.Bit.{indicator}
-use Rattle.bits.proofs.Digits.{same-or-not}
+use Rattle.bits.proofs.Digits.{below-or-not, same-or-not}
 use Rattle.regex.specs.declared.Node.{Node}
 use Rattle.moves.specs.Moves.{kindAt, specialKind}
 use Rattle.rows.specs.Row.{sumBelow}
@@ -61,13 +61,15 @@ pub record Placing (nodes : List Node) (m n : ℕ) (rows : List ℕ) (i : ℕ) :
   pub some : (y : ℕ) → y < i → getD rows y 0 ≡ rowAt nodes m n y
   pub none : (y : ℕ) → i ≤ y → getD rows y 0 ≡ 0
 
-zeros-at : (n i : ℕ) → _≡_ {A = ℕ} (getD (replicate n 0) i 0) 0
-zeros-at zero i = refl
-zeros-at (suc n) zero = refl
-zeros-at (suc n) (suc i) = zeros-at n i
-
 pub placing-begins : {nodes : List Node} {m n : ℕ} → Placing nodes m n (replicate 64 0) 0
-placing-begins = record { few = omega arith; long = refl; some = λ y h. absurd (omega arith); none = λ y h. zeros-at 64 y }
+placing-begins =
+    record {
+      few = omega arith;
+      long = refl;
+      some = λ y h. absurd (omega arith);
+      none = λ y h. ⊎-elim (λ (k : y < 64). getD-replicate 64 y 0 0 k) (λ (k : 64 ≤ y). List·getD-eq-default (replicate 64 0) 0 k)
+          (below-or-not y 64);
+    }
 
 pub placing-on : {nodes : List Node} {m n i v : ℕ} {rows : List ℕ} → Placing nodes m n rows i → m ≤ 64 → i < m → v ≡ rowAt nodes m n i
     → Placing nodes m n (set rows i v) (i + 1)

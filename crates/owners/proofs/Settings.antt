@@ -1,34 +1,25 @@
 -- What the owners' turns go by is ready for their walks, and what the last turn leaves. Assumes nothing.
-use mathlib.Core.Path.{_≡_, refl, sym, ap, _∙_, subst}
+use mathlib.Core.Path.{_≡_, refl, sym, ap, _∙_}
 use mathlib.Core.Bool.{Bool, true, false, false≢true}
 use mathlib.Core.List.{List, [], _++_, append-nil}
-use Prim.Native.Nat.{ℕ, _+_, _-_, _*_, _/_, _%_, _≤_, _<_}
+use Prim.Native.Nat.{ℕ, _+_, _-_, _*_, _≤_, _<_}
 use native.Mathlib.Omega.{arith}
-use native.Mathlib.Nat.{mul-le-mul-right}
 use lib.ListN.{length, getD, drop, replicate}
 use lib.Seq.{drop-at}
-use Rattle.bits.specs.Bit.{bitAt, Adds}
 use Rattle.event.specs.Event.{Word}
 use Rattle.regex.specs.declared.Kind.{Kind}
 use Rattle.regex.specs.declared.Kind.the-variants.{Empty, Epsilon, Letter, Union, Intersection, Concatenation, Complement, Star}
 use Rattle.regex.specs.declared.Node.{Node}
-use Rattle.regex.specs.Tree.{Tree, below, size}
-use Rattle.moves.specs.Reached.{Reached, start, after}
-use Rattle.moves.specs.Moves.{kindAt, specialKind, Placed, FreeMove, Leads}
+use Rattle.regex.specs.Tree.{Tree}
+use Rattle.moves.specs.Reached.{start}
+use Rattle.moves.specs.Moves.{kindAt, specialKind, Placed}
+use Rattle.moves.proofs.Paths.{leads-on}
 use Rattle.walk.specs.Automaton.{automaton, Room, Ready}
-use Rattle.work.specs.Walk.{exit}
-use Rattle.work.specs.Count.{fullCount}
-use Rattle.work.specs.Table.{needOf}
 use Rattle.owners.specs.Filling.{Fillable, FilledTable}
 use Rattle.owners.specs.Turns.{Setting, AllTurned}
 use Rattle.owners.proofs.PlaceLaws.{rows-room}
 use Rattle.owners.proofs.SideLaws.{lefts-low}
 use Rattle.owners.proofs.Steps.{added}
-
--- free moves one after the other
-leads-on : {moves : List ℕ} {s t u : ℕ} → Leads moves s t → Leads moves t u → Leads moves s u
-leads-on {moves} {s} a (start e) = subst (Leads moves s) (sym e) a
-leads-on a (after b f) = after (leads-on a b) f
 
 module _ {t : Tree} {nodes : List Node} {m : ℕ} {lefts closed letters specials rows w lent : List ℕ}
     (S : Setting t nodes m lefts closed letters specials rows w lent) where
@@ -75,13 +66,14 @@ module _ {t : Tree} {nodes : List Node} {m : ℕ} {lefts closed letters specials
     own-past e = placed (kindAt nodes i) e (lefts-low lefts (S .fillable .recorded) (S .left) i h .1)
 
   -- ---- and the whole rule's
-  pub whole-room : (4 * (0 + length w + 1) ≤ length lent) × (0 + length w < 2048) × (0 < 2 * m - 1) × (2 * m - 1 < 128)
-  whole-room =
-      let r = room .within 0 in
-      let s = room .few 0 in
+  pub whole-room : (4 * (0 + length w + 1) ≤ length lent) × (0 + length w < 2048)
+  whole-room = let r = room .within 0 in let s = room .few 0 in (omega arith, omega arith)
+
+  pub whole-exit : (0 < 2 * m - 1) × (2 * m - 1 < 128)
+  whole-exit =
       let a = S .fillable .recorded .long in
       let b = S .fillable .recorded .few in
-      (omega arith, omega arith, omega arith, omega arith)
+      (omega arith, omega arith)
 
 -- the same with another table of the same length
 pub relent : {t : Tree} {nodes : List Node} {m : ℕ} {lefts closed letters specials rows w a b : List ℕ} → length b ≡ length a

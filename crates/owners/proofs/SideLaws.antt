@@ -2,22 +2,22 @@
 use mathlib.Core.Path.{_≡_, refl, sym, ap, _∙_, subst}
 use mathlib.Core.Logic.{⊎-elim}
 use mathlib.Core.List.{List}
-use Prim.Native.Nat.{ℕ, suc, _+_, _-_, _≤_, _<_}
+use Prim.Native.Nat.{ℕ, _+_, _-_, _≤_, _<_}
 use native.Mathlib.Omega.{arith}
 use lib.ListN.{length, getD, set, replicate, length-set}
 use lib.Seq.{getD-set-same, getD-set-other}
 use Rattle.bits.proofs.Digits.{same-or-not}
-use Rattle.regex.specs.declared.Kind.{Kind}
 use Rattle.regex.specs.declared.Node.{Node}
 use Rattle.regex.specs.Tree.{Tree, empty, epsilon, letter, union, intersection, concatenation, complement, star, below, size}
 use Rattle.moves.specs.Moves.{kindAt, Placed}
-use Rattle.work.specs.Walk.{Part, itself, union-left, union-right, intersection-left, intersection-right, concatenation-left, concatenation-right}
+use Rattle.work.specs.Walk.{Part, itself, union-left, union-right, intersection-left, intersection-right, concatenation-left}
+use Rattle.work.specs.Walk.{concatenation-right}
 use Rattle.work.specs.Walk.{complement-inner, star-inner}
 use Rattle.work.proofs.Moves.{part-part}
 use Rattle.owners.specs.Filling.{Recorded}
 use Rattle.owners.specs.Parts.{partAt}
 use Rattle.owners.specs.Sides.{sidesOf, SidesKnown, SidesFound, Left, Lefts}
-use Rattle.owners.proofs.PartLaws.{kindOf, Headed, headed, kind-is, part-within, part-kind}
+use Rattle.owners.proofs.PartLaws.{kindOf, headed, kind-is, part-within, part-kind}
 
 -- the first i nodes have their first records and their left sides
 pub record Siding (t : Tree) (m : ℕ) (firsts lefts : List ℕ) (i : ℕ) : Type 0 where
@@ -82,7 +82,8 @@ module _ {t : Tree} (firsts : List ℕ) (i : ℕ) (low : i < 64)
   found (complement o a) x f l p e g = found-one x f l a (part-part p (complement-inner itself)) e g
   found (star o a) x f l p e g = found-one x f l a (part-part p (star-inner itself)) e g
 
-module _ {t : Tree} {nodes : List Node} {m : ℕ} (r : Recorded t nodes m) {firsts lefts : List ℕ} {i : ℕ} (s : Siding t m firsts lefts i) where
+module _ {t : Tree} {nodes : List Node} {m : ℕ} (r : Recorded t nodes m) {firsts lefts : List ℕ} {i : ℕ}
+    (s : Siding t m firsts lefts i) where
   module _ (h : i < m) {sides : ℕ} (e : sides ≡ sidesOf (kindAt nodes i)) where
     low : i < 64
     low = omega (arith, r .few)

@@ -1,9 +1,9 @@
 -- A step over the arrays is a move of the rule, or several free ones; and each move is a step. Assumes nothing.
 use mathlib.Core.Path.{_≡_, refl, sym, ap, _∙_, subst}
-use mathlib.Core.Bool.{Bool, true, false≢true}
-use mathlib.Core.Logic.{_⊎_, inl, inr, ⊎-elim}
+use mathlib.Core.Bool.{true, false≢true}
+use mathlib.Core.Logic.{inl, inr, ⊎-elim}
 use mathlib.Core.List.{List}
-use Prim.Native.Nat.{ℕ, zero, suc, _+_, _-_, _*_, _/_, _%_, _≤_, _<_}
+use Prim.Native.Nat.{ℕ, suc, _+_, _*_, _/_, _%_, _≤_, _<_}
 use native.Mathlib.Omega.{arith}
 use lib.Dec.{T}
 use lib.ListN.{length, getD, replicate}
@@ -13,17 +13,19 @@ use Rattle.event.proofs.Tests.{T-of, of-T}
 use Rattle.regex.specs.declared.Kind.{Kind}
 use Rattle.regex.specs.declared.Kind.the-variants.{Empty, Epsilon, Letter, Union, Intersection, Concatenation, Complement, Star}
 use Rattle.regex.specs.declared.Node.{Node}
-use Rattle.regex.specs.Tree.{Tree, empty, epsilon, letter, union, intersection, concatenation, complement, star, below, size, isSpecial}
-use Rattle.moves.specs.Reached.{Reached, start, after}
-use Rattle.moves.specs.Moves.{kindAt, specialKind, KindMove, RecordMove, FreeMove, Leads, LetterEntry, SpecialEntry}
-use Rattle.walk.specs.Automaton.{automaton, Step, FreeStep, LetterStep, SpanStep}
+use Rattle.regex.specs.Tree.{Tree, empty, epsilon, letter, union, intersection, concatenation, complement, star, below, isSpecial}
+use Rattle.moves.specs.Reached.{start, after}
+use Rattle.moves.specs.Moves.{kindAt, specialKind, KindMove, RecordMove, FreeMove}
+use Rattle.walk.specs.Automaton.{automaton, Step, LetterStep, SpanStep}
 use Rattle.work.specs.Span.{Obeys}
-use Rattle.work.specs.Walk.{entry, exit, Part, NodeMove, epsilon-through, letter-use, union-to-left, union-to-right, union-left-out, union-right-out}
-use Rattle.work.specs.Walk.{concatenation-in, concatenation-over, concatenation-out, star-in, star-skip, star-again, star-out, intersection-span}
+use Rattle.work.specs.Walk.{entry, exit, Part, NodeMove, epsilon-through, letter-use, union-to-left, union-to-right, union-left-out}
+use Rattle.work.specs.Walk.{union-right-out}
+use Rattle.work.specs.Walk.{concatenation-in, concatenation-over, concatenation-out, star-in, star-skip, star-again, star-out}
+use Rattle.work.specs.Walk.{intersection-span}
 use Rattle.work.specs.Walk.{complement-span, RuleMove}
 use Rattle.work.specs.Table.{obeys}
 use Rattle.work.proofs.TableLaws.{obeys-eq}
-use Rattle.owners.specs.Filling.{Fillable, Recorded}
+use Rattle.owners.specs.Filling.{Recorded}
 use Rattle.owners.specs.Parts.{partAt}
 use Rattle.owners.specs.Sides.{Left}
 use Rattle.owners.specs.Places.{firstRow}
@@ -55,10 +57,12 @@ module _ {t : Tree} {nodes : List Node} {m : ℕ} {lefts closed letters specials
   few = S .fillable .recorded .few
 
   -- ---- each step is a move
+  -- one bit, one move
   free-is : {u : Tree} {x a b : ℕ} (j s s′ : ℕ) → NodeMove w u x a j b j → s′ < 128 → b < 128 → 128 * s + s′ ≡ 128 * a + b
       → NodeMove w u x s j s′ j
   free-is {u} {x} {a} {b} j s s′ v h k e = let d : s ≡ a = omega arith in let d′ : s′ ≡ b = omega arith in rw (d, d′) v
 
+  -- a bit that a node's record brings is a move of the node
   kind-move : (u : Tree) (x l j s s′ : ℕ) → Left u x l → x + below u < 64 → s′ < 128 → KindMove (kindOf u) (x + below u) l (128 * s + s′)
       → NodeMove w u x s j s′ j
   kind-move (empty o) x l j s s′ g k h e = absurd e
@@ -82,18 +86,23 @@ module _ {t : Tree} {nodes : List Node} {m : ℕ} {lefts closed letters specials
   at-record : (y : ℕ) → y < m → Headed t y
   at-record y h = headed t y (omega (arith, recorded .long))
 
+  -- a move of a record's part is the rule's
   part-move : {y s j s′ n : ℕ} (h : Headed t y) → NodeMove w (partAt t y) (h .first) s j s′ n → RuleMove w t 0 s j s′ n
   part-move {y} h v = record { part = partAt t y; first = h .first; within = h .within; move = v }
 
+  -- a single free move
   pub free-move : (s s′ j : ℕ) → FreeMove (S .moves .single) s s′ → RuleMove w t 0 s j s′ j
   free-move s s′ j f =
       let v = added 256 (128 * s + s′) (S .moves .moves) (f .move) in
       let h = at-record (v .node) (v .within) in
       let l = subst (λ (y : ℕ). Left (partAt t (v .node)) (h .first) (getD lefts y 0)) (sym (h .root)) (S .left _ (h .first) (h .within)) in
-      part-move h (kind-move (partAt t (v .node)) (h .first) (getD lefts (v .node) 0) j s s′ l (omega (arith, h .root, v .within, few)) (f .to)
+      part-move h
+      (kind-move (partAt t (v .node)) (h .first) (getD lefts (v .node) 0) j s s′ l (omega (arith, h .root, v .within, few)) (f .to)
       (subst (λ (y : ℕ). KindMove (kindOf (partAt t (v .node))) y (getD lefts (v .node) 0) (128 * s + s′)) (h .root)
-      (subst (λ (k : Kind). KindMove k (v .node) (getD lefts (v .node) 0) (128 * s + s′)) (kind-is recorded (v .node) (v .within)) (v .move))))
+      (subst (λ (k : Kind). KindMove k (v .node) (getD lefts (v .node) 0) (128 * s + s′)) (kind-is recorded (v .node) (v .within))
+      (v .move))))
 
+  -- a part whose kind is the letter of the next event moves over it
   letter-of : (u : Tree) (x j c : ℕ) → kindOf u ≡ Letter c → j < length w → getD w j 0 ≡ c → NodeMove w u x (entry u x) j (exit u x) (suc j)
   unfolding letterOf
   letter-of (empty o) x j c e h g = absurd (omega (arith, ap letterOf e))
@@ -105,6 +114,7 @@ module _ {t : Tree} {nodes : List Node} {m : ℕ} {lefts closed letters specials
   letter-of (complement o a) x j c e h g = absurd (omega (arith, ap letterOf e))
   letter-of (star o a) x j c e h g = absurd (omega (arith, ap letterOf e))
 
+  -- a special part moves over a span that obeys it
   span-of : (u : Tree) (x j n : ℕ) → T (isSpecial u) → Obeys w u j n → NodeMove w u x (entry u x) j (exit u x) n
   span-of (empty o) x j n h g = absurd h
   span-of (epsilon o) x j n h g = absurd h
@@ -124,6 +134,7 @@ module _ {t : Tree} {nodes : List Node} {m : ℕ} {lefts closed letters specials
       let b′ : q % 128 ≡ exit (partAt t y) (h .first) = omega (arith, b, h .root) in
       rw (a′, b′, c, d) (part-move h v)
 
+  -- a letter's step
   pub letter-move : (p q : ℕ) → LetterStep letters w p q → RuleMove w t 0 (p % 128) (p / 128) (q % 128) (q / 128)
   letter-move p q f =
       let c = getD w (p / 128) 0 in
@@ -145,17 +156,17 @@ module _ {t : Tree} {nodes : List Node} {m : ℕ} {lefts closed letters specials
       let v = added 2 s (S .special) e in
       (v .small, v .even, T-of (isSpecial (partAt t (s / 2))) (sym (special-is recorded (s / 2) (v .small)) ∙ v .special))
 
+  -- the list has a special part's first row at its record
   pub row-here : {u : Tree} {x : ℕ} → Part t 0 u x → T (isSpecial u) → getD rows (x + below u) 0 ≡ firstRow t (length w) u
   row-here p h = row-of t (length w) (S .fillable .rising) recorded (S .first) p h
 
   -- the blocks below node k are there
   module _ (k : ℕ) (done : BlocksBelow w lent t k) where
+    -- a special node's step
     pub span-move : (p q : ℕ) → p % 128 < 2 * k → SpanStep specials rows lent (length w) p q
         → RuleMove w t 0 (p % 128) (p / 128) (q % 128) (q / 128)
     span-move p q z f =
         let (l, ev, s) = special-entry (p % 128) (f .special) in
-        let y = p % 128 / 2 in
-        let u = partAt t (p % 128 / 2) in
         let h = at-record (p % 128 / 2) l in
         let e = f .exit in
         let short = S .fillable .short in
@@ -163,7 +174,8 @@ module _ {t : Tree} {nodes : List Node} {m : ℕ} {lefts closed letters specials
         let high = f .to in
         let r : getD rows (p % 128 / 2) 0 ≡ firstRow t (length w) (partAt t (p % 128 / 2)) =
         ap (λ (i : ℕ). getD rows i 0) (h .root) ∙ row-here (h .within) s in
-        let g = done (partAt t (p % 128 / 2)) (h .first) (h .within) s (omega (arith, h .root)) (p / 128) (q / 128) (omega arith) (omega arith) in
+        let g = done (partAt t (p % 128 / 2)) (h .first) (h .within) s (omega (arith, h .root)) (p / 128) (q / 128) (omega arith)
+        (omega arith) in
         through h p q (p / 128) (q / 128) (omega arith) (omega arith) refl refl
         (span-of (partAt t (p % 128 / 2)) (h .first) (p / 128) (q / 128) s
         (obeys-eq w (partAt t (p % 128 / 2)) (p / 128) (q / 128) .0
@@ -219,7 +231,6 @@ module _ {t : Tree} {nodes : List Node} {m : ℕ} {lefts closed letters specials
     letter-step o c x j p h g =
         let z = part-within recorded p in
         let f = few in
-        let y = x + below (letter o c) in
         let e : (128 * j + entry (letter o c) x) % 128 ≡ 2 * (x + below (letter o c)) = omega arith in
         let d : (128 * j + entry (letter o c) x) / 128 ≡ j = omega arith in
         let a : (128 * c + 2 * (x + below (letter o c))) % 128 / 2 ≡ x + below (letter o c) =
@@ -276,5 +287,6 @@ module _ {t : Tree} {nodes : List Node} {m : ℕ} {lefts closed letters specials
     node-step (intersection-span {o} {x} {j} {k = n} {a} {b} h) p l = span-step j n p tt (omega arith) h
     node-step (complement-span {o} {x} {j} {k = n} {a} h) p l = span-step j n p tt (omega arith) h
 
+    -- every move from a state of the nodes below k
     pub move-step : {s j s′ n : ℕ} → RuleMove w t 0 s j s′ n → s < 2 * k → Stepping (128 * j + s) (128 * n + s′)
     move-step v l = node-step (v .move) (v .within) l

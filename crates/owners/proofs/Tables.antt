@@ -1,12 +1,12 @@
 -- A run of numbers that has all blocks is the span table. Assumes nothing.
-use mathlib.Core.Path.{_≡_, refl, sym, ap, _∙_, subst}
+use mathlib.Core.Path.{_≡_, sym, ap, _∙_, subst}
 use mathlib.Core.List.{List, [], _∷_, _++_}
-use Prim.Native.Nat.{ℕ, zero, suc, _+_, _*_, _/_, _%_, _^_, _≤_, _<_}
+use Prim.Native.Nat.{ℕ, zero, suc, _+_, _*_, _/_, _%_, _^_, _<_}
 use native.Mathlib.Omega.{arith}
 use native.Mathlib.Nat.{mod-lt, div-add-mod', div-lt-iff-lt-mul}
 use lib.ListN.{length, getD, List·getD-append}
 use lib.Seq.{ext-getD, getD-append-add}
-use Rattle.bits.specs.Bit.{bitAt, packed}
+use Rattle.bits.specs.Bit.{bitAt}
 use Rattle.bits.proofs.Packed.{packed-is, run-at}
 use Rattle.event.specs.Event.{Word}
 use Rattle.regex.specs.Tree.{Tree, empty, size, specials}
@@ -40,27 +40,25 @@ module _ (w : Word) (run : List ℕ) (small : (k : ℕ) → getD run k 0 < 2 ^ 6
       rw (a, b) at (h ((64 * q + s) / 256) ((64 * q + s) % 256) (omega arith) (omega arith)))
       ∙ sym (run-at (blockLength (length w)) (λ p. obeys w u (startOf p) (endOf p)) q k)
 
-  blocks-are : (l : List Tree) → length run ≡ length l * blockLength (length w)
-      → ((b : ℕ) → b < length l → HasBlock w run (getD l b (empty 0)) (b * (length w + 1))) → run ≡ blocks w l
-  blocks-are l e h =
-      ext-getD 0 run (blocks w l) (e ∙ sym (blocks-length w l)) (λ k z.
-      let c = blockLength (length w) in
-      let b = k / blockLength (length w) in
-      let q = k % blockLength (length w) in
-      let d : k / blockLength (length w) * blockLength (length w) + k % blockLength (length w) ≡ k = div-add-mod' k (blockLength (length w)) in
-      let g : k % blockLength (length w) < blockLength (length w) = mod-lt k (omega arith) in
-      let f : k / blockLength (length w) < length l = div-lt-iff-lt-mul (omega arith) .1 (omega (arith, e, z)) in
-      let s : 4 * (k / blockLength (length w) * (length w + 1)) + k % blockLength (length w) ≡ k = omega (arith, d) in
-      ap (λ i. getD run i 0) (sym s)
-      ∙ number-is (getD l (k / blockLength (length w)) (empty 0)) (k / blockLength (length w) * (length w + 1)) (k % blockLength (length w))
-      (h (k / blockLength (length w)) f) g
-      ∙ sym (blocks-at w l (k / blockLength (length w)) (k % blockLength (length w)) f g) ∙ ap (λ i. getD (blocks w l) i 0) d)
+  module _ (l : List Tree) (h : (b : ℕ) → b < length l → HasBlock w run (getD l b (empty 0)) (b * (length w + 1))) where
+    number-at : (b q : ℕ) → b < length l → q < blockLength (length w)
+        → getD run (b * blockLength (length w) + q) 0 ≡ getD (blocks w l) (b * blockLength (length w) + q) 0
+    number-at b q f g =
+        let s : b * blockLength (length w) + q ≡ 4 * (b * (length w + 1)) + q = omega arith in
+        ap (λ i. getD run i 0) s ∙ number-is (getD l b (empty 0)) (b * (length w + 1)) q (h b f) g ∙ sym (blocks-at w l b q f g)
+
+    blocks-are : length run ≡ length l * blockLength (length w) → run ≡ blocks w l
+    blocks-are e =
+        ext-getD 0 run (blocks w l) (e ∙ sym (blocks-length w l)) (λ k z.
+        subst (λ i. getD run i 0 ≡ getD (blocks w l) i 0) (div-add-mod' k (blockLength (length w)))
+        (number-at (k / blockLength (length w)) (k % blockLength (length w)) (div-lt-iff-lt-mul (omega arith) .1 (omega (arith, e, z)))
+        (mod-lt k (omega arith))))
 
   pub table-is : (t : Tree) → Rising 0 (specialParts t) → length run ≡ needOf (specials t) (length w) → HasBlock w run t 0
       → BlocksBelow w run t (size t) → run ≡ table w t
   unfolding table
   table-is t up e h g =
-      blocks-are (t ∷ specialParts t) (e ∙ omega (arith, ap (λ n. suc n * blockLength (length w)) (parts-length t))) each
+      blocks-are (t ∷ specialParts t) each (e ∙ omega (arith, ap (λ n. suc n * blockLength (length w)) (parts-length t)))
     where
       each : (b : ℕ) → b < length (t ∷ specialParts t) → HasBlock w run (getD (t ∷ specialParts t) b (empty 0)) (b * (length w + 1))
       each zero k = let z : 0 ≡ 0 * (length w + 1) = omega arith in subst (HasBlock w run t) z h

@@ -7,19 +7,17 @@ use Prim.Native.Nat.{ℕ, zero, suc, _+_, _-_, _*_, _/_, _^_, _≤_, _<_}
 use native.Mathlib.Omega.{arith}
 use lib.Dec.{T}
 use lib.ListN.{length, getD}
-use Rattle.bits.specs.Bit.{bitAt}
 use Rattle.bits.proofs.Digits.{below-or-not}
 use Rattle.event.proofs.Tests.{T-of, of-T}
 use Rattle.event.specs.Event.{Word}
-use Rattle.regex.specs.declared.Kind.{Kind}
 use Rattle.regex.specs.declared.Node.{Node}
 use Rattle.regex.specs.Tree.{Tree, empty, epsilon, letter, union, intersection, concatenation, complement, star, below, size, isSpecial}
 use Rattle.moves.specs.Moves.{kindAt, specialKind}
 use Rattle.walk.specs.Automaton.{Automaton, automaton}
 use Rattle.rows.specs.Row.{Apart, Filled}
 use Rattle.work.specs.Walk.{exit, Part}
-use Rattle.work.specs.Count.{sumTo, places, walks, specialWalks, fullCount}
-use Rattle.owners.specs.Filling.{Fillable, Recorded}
+use Rattle.work.specs.Count.{sumTo, places, fullCount}
+use Rattle.owners.specs.Filling.{Recorded}
 use Rattle.owners.specs.Parts.{partAt}
 use Rattle.owners.specs.Places.{firstRow}
 use Rattle.owners.specs.Turns.{isComplement, ownWalks, HasBlock, BlocksBelow, Setting, Turned, SpecialsTurned, AllTurned}
@@ -28,8 +26,9 @@ use Rattle.owners.proofs.PlaceLaws.{blocks-apart, row-past}
 use Rattle.owners.proofs.SumLaws.{walksBelow, below-all, below-none, below-more, below-up}
 use Rattle.owners.proofs.Steps.{row-here}
 use Rattle.owners.proofs.Tables.{table-is}
-use Rattle.owners.proofs.Walkers.{Walker, filled-full, filled-counted, filled-block, whole-walker, complement-walker, intersection-walker}
-use Rattle.owners.proofs.Walkers.{complement-apart, intersection-apart, whole-apart}
+use Rattle.owners.proofs.Walkers.{Walker, filled-full, filled-counted, filled-block, whole-walker, complement-walker}
+use Rattle.owners.proofs.Walkers.{intersection-walker}
+use Rattle.owners.proofs.Walkers.{complement-apart, intersection-apart}
 
 sum-add : (f g : ℕ → ℕ) (k : ℕ) → sumTo k (λ i. f i + g i) ≡ sumTo k f + sumTo k g
 sum-add f g zero = refl
@@ -55,6 +54,7 @@ module _ {t : Tree} {nodes : List Node} {m : ℕ} {lefts closed letters specials
     at-node : Headed t i
     at-node = headed t i (omega (arith, recorded .long))
 
+    -- what the root of a special part owns
     own-part : (u : Tree) (x : ℕ) → Part t 0 u x → T (isSpecial u) → i ≡ x + below u
         → Own A (2 * getD lefts i 0 + 1) (2 * i - 1) (isComplement (kindOf u)) u (firstRow t (length w) u)
     unfolding ownWalks
@@ -99,15 +99,17 @@ module _ {t : Tree} {nodes : List Node} {m : ℕ} {lefts closed letters specials
           rw (row-is, kind-is recorded i h)
           (own-part (partAt t i) (at-node .first) (at-node .within) special-here (at-node .root))
 
+      -- its walks go by other blocks
       pub own-apart : (x y : ℕ) → x ≡ 2 * getD lefts i 0 + 1 → y ≡ 2 * i - 1 → Apart A (getD rows i 0) x y
       own-apart x y d e = rw (d, e) (own .apart)
 
-      pub own-turn : {x y : ℕ} {flip : Bool} {count limit : ℕ} {b : List ℕ} {c : ℕ} {spent : Bool}
-          → Filled A (getD rows i 0) x y flip count limit b c spent → x ≡ 2 * getD lefts i 0 + 1 → y ≡ 2 * i - 1
+      -- its block as filled, and all blocks before
+      pub own-turn : {flip : Bool} {count limit : ℕ} {b : List ℕ} {c : ℕ} {spent : Bool}
+          → Filled A (getD rows i 0) (2 * getD lefts i 0 + 1) (2 * i - 1) flip count limit b c spent
           → flip ≡ isComplement (kindAt nodes i) → Turned t w i count limit b c spent
-      own-turn {x} {y} {flip} {count} {limit} {b} {c} {spent} f dx dy df =
+      own-turn {flip} {count} {limit} {b} {c} {spent} f e =
           let g : Filled A (getD rows i 0) (2 * getD lefts i 0 + 1) (2 * i - 1) (isComplement (kindAt nodes i)) count limit b c spent =
-          rw (dx, dy, df) at f in
+          rw e at f in
           record {
             done = λ e. again (filled-block (own .walker) g e);
             counted = λ e. filled-counted (own .walker) g e ∙ ap (count +_) (own .count);
@@ -168,8 +170,9 @@ module _ {t : Tree} {nodes : List Node} {m : ℕ} {lefts closed letters specials
         }
 
   -- ---- the whole rule's turn
-  pub whole-turn : {limit count : ℕ} {b : List ℕ} {c : ℕ} {before spent : Bool} → before ≡ false → SpecialsTurned t w limit lent count before
-      → ((k : ℕ) → getD b k 0 < 2 ^ 64) → Filled A 0 (2 * m - 1) (2 * m - 1) false count limit b c spent → AllTurned t w limit b c spent
+  pub whole-turn : {limit count : ℕ} {b : List ℕ} {c : ℕ} {before spent : Bool} → before ≡ false
+      → SpecialsTurned t w limit lent count before → ((k : ℕ) → getD b k 0 < 2 ^ 64)
+      → Filled A 0 (2 * m - 1) (2 * m - 1) false count limit b c spent → AllTurned t w limit b c spent
   unfolding fullCount
   whole-turn {limit} {count} {b} {c} {before} {spent} e₀ s small f =
       let x : 2 * m - 1 ≡ exit t 0 = omega (arith, recorded .long) in
@@ -241,8 +244,8 @@ module _ {t : Tree} {w : Word} {limit : ℕ} {a : List ℕ} where
         }
 
 -- where the special owners' walks alone are too many, so are all
-pub specials-spent : {t : Tree} {w : Word} {limit : ℕ} {b : List ℕ} {c : ℕ} {spent : Bool} → spent ≡ true → SpecialsTurned t w limit b c spent
-    → AllTurned t w limit b c spent
+pub specials-spent : {t : Tree} {w : Word} {limit : ℕ} {b : List ℕ} {c : ℕ} {spent : Bool} → spent ≡ true
+    → SpecialsTurned t w limit b c spent → AllTurned t w limit b c spent
 unfolding fullCount
 specials-spent e s =
     record {

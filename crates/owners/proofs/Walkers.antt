@@ -3,7 +3,7 @@ use mathlib.Core.Path.{_≡_, refl, sym, ap, _∙_, subst}
 use mathlib.Core.Bool.{Bool, true, false, _&&_, false≢true}
 use mathlib.Core.Logic.{_⊎_, inl, inr, ⊎-elim, _↔_}
 use mathlib.Core.List.{List}
-use Prim.Native.Nat.{ℕ, suc, _+_, _-_, _*_, _/_, _%_, _≤_, _<_}
+use Prim.Native.Nat.{ℕ, _+_, _-_, _*_, _/_, _%_, _≤_, _<_}
 use native.Mathlib.Omega.{arith}
 use lib.Dec.{T, leb, leb→le, le→leb}
 use lib.ListN.{length, getD}
@@ -14,7 +14,7 @@ use Rattle.regex.specs.Tree.{Tree, intersection, complement, below, size, isSpe
 use Rattle.moves.specs.Reached.{Reached}
 use Rattle.walk.specs.Automaton.{Automaton, automaton, Step}
 use Rattle.rows.specs.Row.{decide, ended, rowOf, StartsAt, Apart, Filled}
-use Rattle.work.specs.Walk.{entry, exit, Part, itself, intersection-left, intersection-right, complement-inner, Owner, whole, special}
+use Rattle.work.specs.Walk.{exit, Part, itself, intersection-left, intersection-right, complement-inner, Owner, whole, special}
 use Rattle.work.specs.SizeOf.{SizeOf}
 use Rattle.work.specs.Count.{sumTo, places}
 use Rattle.work.specs.Table.{obeys}
@@ -28,7 +28,7 @@ use Rattle.work.proofs.Owners.{reached-range}
 use Rattle.owners.specs.Parts.{partAt}
 use Rattle.owners.specs.Places.{firstRow}
 use Rattle.owners.specs.Turns.{HasBlock, BlocksBelow, Setting}
-use Rattle.owners.proofs.PartLaws.{Headed, headed, headed-within}
+use Rattle.owners.proofs.PartLaws.{headed, headed-within}
 use Rattle.owners.proofs.PlaceLaws.{blocks-apart, row-past}
 use Rattle.owners.proofs.Steps.{special-entry, row-here}
 use Rattle.owners.proofs.Walks.{whole-reached, complement-reached, intersection-reached}
@@ -36,7 +36,8 @@ use Rattle.owners.proofs.Counting.{count-most, count-exact, visits-are,
 use Rattle.owners.proofs.SideRows.{intersection-row, complement-row}
 
 -- ---- a row, read
-row-to : (marks : List ℕ) (i n x y : ℕ) (flip : Bool) (j : ℕ) → T (rowOf marks i n x y flip j) → (i ≤ j) × (j ≤ n) × T (ended marks x y flip j)
+row-to : (marks : List ℕ) (i n x y : ℕ) (flip : Bool) (j : ℕ) → T (rowOf marks i n x y flip j)
+    → (i ≤ j) × (j ≤ n) × T (ended marks x y flip j)
 unfolding rowOf
 row-to marks i n x y flip j h =
     let a = and-split (leb i j) (leb j n && ended marks x y flip j) h in
@@ -75,6 +76,7 @@ module _ {g : Automaton} {x y : ℕ} {flip : Bool} {v : Tree} {c : ℕ → ℕ} 
   marks-most i l =
       count-most (k .owner) i (length (g .word)) (c i) (k .reach i) (k .many i l) (f .marks i) (λ q e. k .same i q l .0 (f .only i q e))
 
+  -- where the limit is reached, the walks have more places
   pub filled-full : spent ≡ true → limit < count + sumTo (length (g .word)) c
   filled-full s =
       let a = f .full s in
@@ -89,9 +91,11 @@ module _ {g : Automaton} {x y : ℕ} {flip : Bool} {v : Tree} {c : ℕ → ℕ} 
         count-exact (k .owner) i (length (g .word)) (c i) (k .reach i) (k .many i l) (f .marks i) (λ q e. all i l q .0 e)
         (λ s j z. k .bound i s j l z) (λ q z. all i l q .1 z)
 
+    -- where it is not, each place is counted once
     pub filled-counted : d ≡ count + sumTo (length (g .word)) c
     filled-counted = f .counted s ∙ ap (count +_) (visits-are (f .marks) c (length (g .word)) marks-are)
 
+    -- and the rows are those of the owner's part
     pub filled-block : HasBlock (g .word) b v r
     filled-block i j l h =
         let a : (256 * (r + i) + j) / 256 ≡ r + i = omega arith in
@@ -209,7 +213,8 @@ module _ {t : Tree} {nodes : List Node} {m : ℕ} {lefts closed letters specials
       let (k, ev, v) = special-entry S s e in
       let z = headed t (s / 2) (omega (arith, S .fillable .recorded .long)) in
       let g = headed-within (s / 2) p (omega arith) (omega arith) in
-      let r : getD rows (s / 2) 0 ≡ firstRow t (length w) (partAt t (s / 2)) = ap (λ i. getD rows i 0) (z .root) ∙ row-here S (z .within) v in
+      let r : getD rows (s / 2) 0 ≡ firstRow t (length w) (partAt t (s / 2)) =
+      ap (λ i. getD rows i 0) (z .root) ∙ row-here S (z .within) v in
       ⊎-elim (λ (c : partAt t (s / 2) ≡ u). let d : below (partAt t (s / 2)) ≡ below u = ap below c in absurd (omega arith))
       (λ c. rw r c)
       (blocks-apart t (length w) (S .fillable .rising) p (z .within) h v)

@@ -1,19 +1,21 @@
 -- What the steps over the arrays reach is what the owner's walk reaches. Assumes nothing.
-use mathlib.Core.Path.{_≡_, refl, sym, ap, _∙_, subst}
+use mathlib.Core.Path.{_≡_, sym, subst}
 use mathlib.Core.Logic.{_⊎_, inl, inr, ⊎-elim, _↔_}
 use mathlib.Core.List.{List}
-use Prim.Native.Nat.{ℕ, suc, _+_, _-_, _*_, _/_, _%_, _≤_, _<_}
+use Prim.Native.Nat.{ℕ, _+_, _-_, _*_, _/_, _%_, _≤_, _<_}
 use native.Mathlib.Omega.{arith}
 use lib.ListN.{length}
 use Rattle.event.specs.Event.{Word}
 use Rattle.regex.specs.declared.Node.{Node}
-use Rattle.regex.specs.Tree.{Tree, empty, epsilon, letter, union, intersection, concatenation, complement, star, below, size}
+use Rattle.regex.specs.Tree.{Tree, intersection, complement, below, size}
 use Rattle.moves.specs.Reached.{Reached, start, after}
 use Rattle.moves.specs.Moves.{Leads}
-use Rattle.walk.specs.Automaton.{automaton, Step, FreeStep, LetterStep, SpanStep}
+use Rattle.moves.proofs.Paths.{reached-from}
+use Rattle.walk.specs.Automaton.{automaton, Step}
 use Rattle.rows.specs.Row.{StartsAt}
 use Rattle.work.specs.Walk.{entry, exit, Part, itself, union-left, union-right, intersection-left, intersection-right, concatenation-left}
-use Rattle.work.specs.Walk.{concatenation-right, complement-inner, star-inner, Owner, whole, special, Begins, begin-rule, begin-left, begin-right}
+use Rattle.work.specs.Walk.{concatenation-right, complement-inner, star-inner, Owner, whole, special, Begins, begin-rule, begin-left}
+use Rattle.work.specs.Walk.{begin-right}
 use Rattle.work.specs.Walk.{begin-inner, Reaches, begin, onward}
 use Rattle.work.proofs.Moves.{part-range, part-part, by-part}
 use Rattle.work.proofs.TreeWalk as tree
@@ -23,18 +25,15 @@ use Rattle.work.proofs.WorkSize.{owner-range}
 use Rattle.owners.specs.Turns.{BlocksBelow, Setting}
 use Rattle.owners.proofs.Steps.{free-move, letter-move, span-move, move-step}
 
--- from more places more is reached
-more : {S S′ : ℕ → Type 0} {R : ℕ → ℕ → Type 0} {q : ℕ} → ((p : ℕ) → S p → S′ p) → Reached S R q → Reached S′ R q
-more h (start {p} s) = start (h p s)
-more h (after r s) = after (more h r) s
-
 -- ---- the walk of a special node is over its own sides
 module _ (w : Word) (i : ℕ) where
   -- of two sides by side, or of a node with one, the owner's walk is in the part that has its record
-  of-part : {t u : Tree} {x z : ℕ} (y s j : ℕ) → Part t x u z → z ≤ y → y ≤ z + below u → SpecialWalk w t x y i s j → SpecialWalk w u z y i s j
+  of-part : {t u : Tree} {x z : ℕ} (y s j : ℕ) → Part t x u z → z ≤ y → y ≤ z + below u → SpecialWalk w t x y i s j
+      → SpecialWalk w u z y i s j
   of-part y s j itself l k h = h
   of-part y s j (union-left {x = x} {a = a} {b = b} p) l k (inl h) = of-part y s j p l k h
-  of-part y s j (union-left {x = x} {a = a} {b = b} p) l k (inr h) = absurd (omega (arith, part-range p, owner-range w b (x + size a) y i s j h))
+  of-part y s j (union-left {x = x} {a = a} {b = b} p) l k (inr h) =
+      absurd (omega (arith, part-range p, owner-range w b (x + size a) y i s j h))
   of-part y s j (union-right {x = x} {a = a} {b = b} p) l k (inl h) = absurd (omega (arith, part-range p, owner-range w a x y i s j h))
   of-part y s j (union-right {x = x} {a = a} {b = b} p) l k (inr h) = of-part y s j p l k h
   of-part y s j (intersection-left p) l k (inl h) = absurd (omega (arith, part-range p, h .0))
@@ -48,12 +47,14 @@ module _ (w : Word) (i : ℕ) where
   of-part y s j (concatenation-left p) l k (inl h) = of-part y s j p l k h
   of-part y s j (concatenation-left {x = x} {a = a} {b = b} p) l k (inr h) =
       absurd (omega (arith, part-range p, owner-range w b (x + size a) y i s j h))
-  of-part y s j (concatenation-right {x = x} {a = a} {b = b} p) l k (inl h) = absurd (omega (arith, part-range p, owner-range w a x y i s j h))
+  of-part y s j (concatenation-right {x = x} {a = a} {b = b} p) l k (inl h) =
+      absurd (omega (arith, part-range p, owner-range w a x y i s j h))
   of-part y s j (concatenation-right p) l k (inr h) = of-part y s j p l k h
   of-part y s j (complement-inner p) l k (inl h) = absurd (omega (arith, part-range p, h .0))
   of-part y s j (complement-inner p) l k (inr h) = of-part y s j p l k h
   of-part y s j (star-inner p) l k h = of-part y s j p l k h
 
+  -- the walks of `&` are those over its two sides
   of-sides : {t : Tree} {o x s j : ℕ} {a b : Tree} → i ≤ length w → Part t 0 (intersection o a b) x
       → Reaches w t (special (x + below (intersection o a b))) i s j → TreeWalk w a x i s j ⊎ TreeWalk w b (x + size a) i s j
   of-sides {t} {o} {x} {s} {j} {a} {b} l p r =
@@ -62,6 +63,7 @@ module _ (w : Word) (i : ℕ) where
       (λ h. absurd (omega (arith, owner-range w b (x + size a) (x + below (intersection o a b)) i s j h))) k)
       (of-part (x + below (intersection o a b)) s j p (omega arith) (omega arith) (reaches-walk w i l r))
 
+  -- the walk of `!` is that over its inner part
   of-inner : {t : Tree} {o x s j : ℕ} {a : Tree} → i ≤ length w → Part t 0 (complement o a) x
       → Reaches w t (special (x + below (complement o a))) i s j → TreeWalk w a x i s j
   of-inner {t} {o} {x} {s} {j} {a} l p r =
@@ -70,12 +72,14 @@ module _ (w : Word) (i : ℕ) where
 
 -- ---- what the steps reach
 module _ {t : Tree} {nodes : List Node} {m : ℕ} {lefts closed letters specials rows w lent : List ℕ}
-    (S : Setting t nodes m lefts closed letters specials rows w lent) (k : ℕ) (done : BlocksBelow w lent t k) (i : ℕ) (l : i ≤ length w) where
+    (S : Setting t nodes m lefts closed letters specials rows w lent) (k : ℕ) (done : BlocksBelow w lent t k) (i : ℕ)
+    (l : i ≤ length w) where
   abbrev Stepping : ℕ → ℕ → Type 0
   Stepping = Step (automaton closed letters specials rows w lent)
 
   -- the owner's walk goes along with the steps, as long as its states are those of the nodes below k
   module _ (u : Owner) (low : (s j : ℕ) → Reaches w t u i s j → s < 2 * k) where
+    -- over closed free moves, one by one
     along : (s s′ j : ℕ) → Leads (S .moves .single) s s′ → Reaches w t u i s j → Reaches w t u i s′ j
     along s s′ j (start e) r = subst (λ (z : ℕ). Reaches w t u i z j) (sym e) r
     along s s′ j (after {p} d f) r = onward (along s p j d r) (free-move S p s′ j f)
@@ -119,6 +123,7 @@ module _ {t : Tree} {nodes : List Node} {m : ℕ} {lefts closed letters specials
 -- ---- the three owners
 module _ {t : Tree} {nodes : List Node} {m : ℕ} {lefts closed letters specials rows w lent : List ℕ}
     (S : Setting t nodes m lefts closed letters specials rows w lent) (i : ℕ) (l : i ≤ length w) where
+  -- the place q is reached over the arrays from the entries before the exits x and y
   abbrev pub Walked : (x y q : ℕ) → Type 0
   Walked x y q = Reached (StartsAt i x y) (Step (automaton closed letters specials rows w lent)) q
 
@@ -126,7 +131,7 @@ module _ {t : Tree} {nodes : List Node} {m : ℕ} {lefts closed letters specials
   whole-reached done q = (
     λ r. reaches-walk w i l (reaches S (size t) done i l whole (λ s j z. reaches-state w i l z)
         (λ p x. at-entry S (size t) done i l t 0 p whole itself (⊎-elim (λ e. e) (λ e. e) x) begin-rule) r),
-    λ r. more (λ p e. inl e) (steps-to S (size t) done i l itself (omega arith) r),
+    λ r. reached-from (λ p e. start (inl e)) (steps-to S (size t) done i l itself (omega arith) r),
   )
 
   pub complement-reached : (o x : ℕ) (a : Tree) → Part t 0 (complement o a) x → BlocksBelow w lent t (x + below (complement o a))
@@ -136,11 +141,11 @@ module _ {t : Tree} {nodes : List Node} {m : ℕ} {lefts closed letters specials
       let c = part-part p (complement-inner itself) in (
         λ r. of-inner w i l p (reaches S y done i l (special y) (λ s j z. reaches-below w i l z)
             (λ n z. at-entry S y done i l a x n (special y) c (⊎-elim (λ e. e) (λ e. e) z) (begin-inner p)) r),
-        λ r. more (λ p e. inl e) (steps-to S y done i l c (omega arith) r),
+        λ r. reached-from (λ p e. start (inl e)) (steps-to S y done i l c (omega arith) r),
       )
 
-  pub intersection-reached : (o x : ℕ) (a b : Tree) → Part t 0 (intersection o a b) x → BlocksBelow w lent t (x + below (intersection o a b))
-      → (q : ℕ) → Walked (exit a x) (exit b (x + size a)) q
+  pub intersection-reached : (o x : ℕ) (a b : Tree) → Part t 0 (intersection o a b) x
+      → BlocksBelow w lent t (x + below (intersection o a b)) → (q : ℕ) → Walked (exit a x) (exit b (x + size a)) q
       ↔ (TreeWalk w a x i (q % 128) (q / 128) ⊎ TreeWalk w b (x + size a) i (q % 128) (q / 128))
   intersection-reached o x a b p done q =
       let y = x + below (intersection o a b) in
@@ -149,6 +154,6 @@ module _ {t : Tree} {nodes : List Node} {m : ℕ} {lefts closed letters specials
         λ r. of-sides w i l p (reaches S y done i l (special y) (λ s j z. reaches-below w i l z)
             (λ n z. ⊎-elim (λ e. at-entry S y done i l a x n (special y) c e (begin-left p))
             (λ e. at-entry S y done i l b (x + size a) n (special y) d e (begin-right p)) z) r),
-        λ r. ⊎-elim (λ z. more (λ p e. inl e) (steps-to S y done i l c (omega arith) z))
-            (λ z. more (λ p e. inr e) (steps-to S y done i l d (omega arith) z)) r,
+        λ r. ⊎-elim (λ z. reached-from (λ p e. start (inl e)) (steps-to S y done i l c (omega arith) z))
+            (λ z. reached-from (λ p e. start (inr e)) (steps-to S y done i l d (omega arith) z)) r,
       )

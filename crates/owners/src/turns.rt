@@ -49,6 +49,7 @@ fn own(
     let k = node.kind;
     if is_special(k) {
         let flip = is_complement(k);
+        // The exits of its sides; the right one stands just before it, and the only side of a complement is both.
         let x = 2 * lefts[i] + 1;
         let y = 2 * i - 1;
         return rows::fill_block(

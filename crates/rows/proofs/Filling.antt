@@ -5,8 +5,6 @@ use mathlib.Core.Logic.{_⊎_, inl, inr, ⊎-elim}
 use mathlib.Core.List.{List}
 use Prim.Native.Nat.{ℕ, zero, suc, _+_, _-_, _*_, _/_, _%_, _≤_, _<_}
 use native.Mathlib.Numerals.{add-one}
-use native.Mathlib.Nat.{le-refl}
-use native.Mathlib.Decide.{le-ind}
 use native.Mathlib.Omega.{arith}
 use lib.Dec.{eqb}
 use lib.ListN.{length, getD, replicate}
@@ -26,22 +24,9 @@ unfolding sumBelow
 sum-same f g zero h = refl
 sum-same f g (suc k) h = let e = sum-same f g k (λ i l. h i (omega arith)) in let d = h k (omega arith) in omega arith
 
-sum-up : (f : ℕ → ℕ) (k n : ℕ) → k ≤ n → sumBelow f k ≤ sumBelow f n
-unfolding sumBelow
-sum-up f k n h = le-ind (λ (m : ℕ). sumBelow f k ≤ sumBelow f m) (le-refl (sumBelow f k)) (λ m _ e. omega arith) n h
-
 sum-more : (f : ℕ → ℕ) (k : ℕ) → sumBelow f (k + 1) ≡ f k + sumBelow f k
 unfolding sumBelow
 sum-more f k = rw add-one
-
--- more than the limit at the start where it stopped is more than the limit in all
-pub filled-full : {t : Automaton} {r x y : ℕ} {flip : Bool} {count limit : ℕ} {b : List ℕ} {c : ℕ} {spent : Bool}
-    → (g : Filled t r x y flip count limit b c spent) → spent ≡ true → limit < count + visits (g .marks) (length (t .word)) (length (t .word) + 1)
-filled-full {t} g f =
-    let u = g .full f in
-    let n = length (t .word) in
-    let w = sum-up (λ (i : ℕ). tallyBelow (128 * (n + 1)) (bitAt (g .marks i))) (g .stop + 1) (n + 1) (omega arith) in
-    omega arith
 
 -- ---- walks over two tables that agree but for an owner's own rows
 

@@ -1,7 +1,7 @@
 -- Rows of a table, cleared and written bit by bit; and the walk of one start. Assumes nothing.
 use mathlib.Core.Path.{_≡_, refl, sym, ap, _∙_}
 use mathlib.Core.Bool.{Bool, true, false, _&&_, and-false, false≢true}
-use mathlib.Core.Logic.{_⊎_, inl, inr, ⊎-elim}
+use mathlib.Core.Logic.{⊎-elim}
 use mathlib.Core.List.{List}
 use Prim.Native.Nat.{ℕ, _+_, _-_, _*_, _/_, _%_, _≤_, _<_}
 use native.Mathlib.Omega.{arith}
@@ -13,8 +13,9 @@ use Rattle.bits.specs.Bit.{bitAt, Put, Adds}
 use Rattle.bits.proofs.Digits.{below-or-not, same-or-not, zero-has}
 use Rattle.bits.proofs.Laws.{zeros-bit}
 use Rattle.moves.specs.Reached.{start}
+use Rattle.moves.proofs.Paths.{reached-from}
 use Rattle.walk.specs.Automaton.{Automaton, Walked}
-use Rattle.walk.proofs.Reaching.{reached-from}
+use Rattle.walk.proofs.Spent.{walked-full}
 use Rattle.rows.specs.Row.{ended, rowOf, StartsAt}
 use Rattle.rows.specs.Starts.{Zeroed, Rowed, Started}
 
@@ -147,7 +148,8 @@ module _ (marks : List ℕ) (i n x y : ℕ) (flip : Bool) where
     )
 
   -- the row was cleared before
-  pub writing-done : {a b c : List ℕ} {r j : ℕ} → Rowed a r (λ (_ : ℕ). false) b → Writing b r j c → n < j → Rowed a r (rowOf marks i n x y flip) c
+  pub writing-done : {a b c : List ℕ} {r j : ℕ} → Rowed a r (λ (_ : ℕ). false) b → Writing b r j c → n < j
+      → Rowed a r (rowOf marks i n x y flip) c
   writing-done {j = j} h g l = record {
     inside = λ q e. g .2 .inside q e ∙ all-now (rowOf marks i n x y flip) j (λ k m. row-above k (omega arith)) (q % 256);
     outside = λ q ne. g .2 .outside q ne ∙ h .outside q ne;
@@ -158,7 +160,8 @@ module _ (marks : List ℕ) (i n x y : ℕ) (flip : Bool) where
 
 starts-only : {a : List ℕ} (i x y : ℕ) → Adds (replicate 512 0) (StartsAt i x y) a → (q : ℕ) → bitAt a q ≡ true → StartsAt i x y q
 starts-only i x y h q e =
-    ⊎-elim (λ (z : bitAt (replicate 512 0) q ≡ true). absurd (false≢true (sym (zeros-bit 512 q) ∙ z))) (λ (b : StartsAt i x y q). b) (h .only q e)
+    ⊎-elim (λ (z : bitAt (replicate 512 0) q ≡ true). absurd (false≢true (sym (zeros-bit 512 q) ∙ z))) (λ (b : StartsAt i x y q). b)
+    (h .only q e)
 
 -- the marks of a start stand at its number
 pub starts-at : {a : List ℕ} (i x y : ℕ) → 0 < x → x < 128 → 0 < y → y < 128 → Adds (replicate 512 0) (StartsAt i x y) a
@@ -173,9 +176,9 @@ pub started : {t : Automaton} {a m b : List ℕ} {count limit c : ℕ} {spent : 
 started {m = m} r i x y flip h w f k = record {
   marks = m;
   only = λ q e. reached-from (λ p z. start (starts-only i x y h p z)) (w .only q e);
-  all = λ s q z. w .all s q (reached-from (λ p u. start (h .new p u)) z);
+  all = λ s q z. w .all q (λ f. absurd (false≢true (sym s ∙ f))) (reached-from (λ p u. start (h .new p u)) z);
   counted = w .counted;
-  full = w .full;
+  full = walked-full w;
   bounded = w .bounded;
   row = f;
   kept = k;

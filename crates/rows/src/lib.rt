@@ -4,7 +4,6 @@ mod table;
 
 use crate::starts::fill_start;
 use walk::Tally;
-ghost use mathlib.Core.Path.{_≡_};
 ghost use Prim.Native.Nat.{_+_, _*_, _<_, _≤_};
 ghost use lib.ListN.{length};
 ghost use Rattle.walk.specs.Automaton.{automaton, Ready};

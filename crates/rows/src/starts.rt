@@ -1,7 +1,6 @@
 // The walk of one start, and its row.
 use crate::table::write_row;
 use walk::Tally;
-ghost use mathlib.Core.Path.{_≡_};
 ghost use Prim.Native.Nat.{_+_, _*_, _<_, _≤_};
 ghost use lib.ListN.{length};
 ghost use Rattle.walk.specs.Automaton.{automaton, Ready};

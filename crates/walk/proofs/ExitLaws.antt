@@ -3,7 +3,7 @@ use mathlib.Core.Path.{_≡_, refl, sym, ap, _∙_}
 use mathlib.Core.Bool.{true, false, false≢true}
 use mathlib.Core.Logic.{_⊎_, inl, inr, ⊎-elim}
 use mathlib.Core.List.{List}
-use Prim.Native.Nat.{ℕ, _+_, _-_, _*_, _/_, _%_, _≤_, _<_}
+use Prim.Native.Nat.{ℕ, _+_, _-_, _*_, _/_, _%_, _<_}
 use native.Mathlib.Omega.{arith}
 use lib.ListN.{length, getD, replicate}
 use Rattle.bits.specs.Bit.{hasBit, bitAt, Put, Merged, Adds}
@@ -20,7 +20,8 @@ module _ (table : List ℕ) (r i : ℕ) where
     pub number : q / 64 ≡ 4 * i + h
     pub span : bitAt table (256 * r + q % 256) ≡ true
 
-  quarter-bit : (h q v : ℕ) → h < 4 → q / 64 ≡ 4 * i + h → v ≡ 4 * r + h → bitAt table (256 * r + q % 256) ≡ hasBit (q % 64) (getD table v 0)
+  quarter-bit : (h q v : ℕ) → h < 4 → q / 64 ≡ 4 * i + h → v ≡ 4 * r + h
+      → bitAt table (256 * r + q % 256) ≡ hasBit (q % 64) (getD table v 0)
   quarter-bit h q v l e f =
       let m : 256 * r + q % 256 ≡ 64 * v + q % 64 = omega arith in
       ap (bitAt table) m ∙ word-bit table v (q % 64) (omega arith)

@@ -1,15 +1,16 @@
 -- Free moves followed from each state of a set. Assumes nothing.
 use mathlib.Core.Path.{_≡_, refl, sym, ap, _∙_}
-use mathlib.Core.Bool.{true, false, or-false, or-true, _||_}
+use mathlib.Core.Bool.{true, or-false, or-true, _||_}
 use mathlib.Core.Logic.{_⊎_, inl, inr, ⊎-elim}
 use mathlib.Core.List.{List}
-use Prim.Native.Nat.{ℕ, _+_, _-_, _*_, _/_, _%_, _^_, _≤_, _<_}
+use Prim.Native.Nat.{ℕ, _+_, _-_, _*_, _%_, _^_, _<_}
 use native.Mathlib.Omega.{arith}
 use lib.ListN.{length, getD}
 use lib.Bits.{bitOr}
 use Rattle.bits.specs.Bit.{hasBit, bitAt, tallyBelow, Merged, Adds, First}
-use Rattle.bits.proofs.Digits.{below-or-not, same-or-not, has-or, power-has, power-lacks}
-use Rattle.bits.proofs.Laws.{merged-adds, adds-then, adds-as}
+use Rattle.bits.proofs.Digits.{same-or-not, has-or, power-has, power-lacks}
+use Rattle.bits.proofs.Laws.{adds-as}
+use Rattle.moves.proofs.RowLaws.{row-merged}
 use Rattle.walk.specs.Automaton.{Reflexive}
 use Rattle.walk.specs.Levels.{LedFrom, Followed, FollowedWord}
 use Rattle.walk.proofs.SetLaws.{word-bit, by-half}
@@ -22,24 +23,13 @@ pub record LedTo (c : List ℕ) (s q : ℕ) : Type 0 where
   pub small : q < 128
   pub leads : bitAt c (128 * s + q) ≡ true
 
--- where the bit of a move from s stands: h is 0 for the first number, 1 for the second
-move-bit : (c : List ℕ) (s q h : ℕ) → h < 2 → q / 64 ≡ h → bitAt c (128 * s + q) ≡ hasBit (q % 64) (getD c (2 * s + h) 0)
-move-bit c s q h l e =
-    let m : 128 * s + q ≡ 64 * (2 * s + h) + q % 64 = omega arith in
-    ap (bitAt c) m ∙ word-bit c (2 * s + h) (q % 64) (omega arith)
-
-led-law : (c : List ℕ) {a b d : List ℕ} (s : ℕ) → Merged a 0 (getD c (2 * s + 0) 0) b → Merged b 1 (getD c (2 * s + 1) 0) d → Adds a (LedTo c s) d
+led-law : (c : List ℕ) {a b d : List ℕ} (s : ℕ) → Merged a 0 (getD c (2 * s) 0) b → Merged b 1 (getD c (2 * s + 1) 0) d
+    → Adds a (LedTo c s) d
 led-law c s f g =
     adds-as
-    (λ q r.
-    ⊎-elim (λ x. let y = x .0 in record { small = omega arith; leads = move-bit c s q 0 (omega arith) y ∙ x .1 })
-    (λ x. let y = x .0 in record { small = omega arith; leads = move-bit c s q 1 (omega arith) y ∙ x .1 }) r)
-    (λ q r.
-    let n = r .small in
-    ⊎-elim (λ (x : q < 64). inl (omega arith, sym (move-bit c s q 0 (omega arith) (omega arith)) ∙ r .leads))
-    (λ (x : 64 ≤ q). inr (omega arith, sym (move-bit c s q 1 (omega arith) (omega arith)) ∙ r .leads))
-    (below-or-not q 64))
-    (adds-then (merged-adds f) (merged-adds g))
+    (λ q u. let n = u .0 in let y : q % 128 ≡ q = omega arith in record { small = omega arith; leads = rw y at (u .1) })
+    (λ q u. let n = u .small in let y : q % 128 ≡ q = omega arith in (omega arith, rw y (u .leads)))
+    (row-merged c 0 s f g)
 
 -- ---- the loop over the states of one number
 
@@ -104,14 +94,15 @@ module _ {c a d e : List ℕ} (w m n b : ℕ) (g : Following c a w n d e) (small
       s-small = let l = b-small in omega arith
 
       more-led : Adds e (LedTo c (64 * w + b)) h
-      more-led = let z : 2 * (64 * w + b) ≡ 2 * (64 * w + b) + 0 = omega arith in led-law c (64 * w + b) (rw z at p) q
+      more-led = led-law c (64 * w + b) p q
 
   pub following-less : 64 - tallyBelow 64 (λ (q : ℕ). hasBit q (bitOr n (2 ^ b))) < 64 - tallyBelow 64 (λ (q : ℕ). hasBit q n)
   following-less =
       left-less 64 (λ (q : ℕ). hasBit q n) (λ (q : ℕ). hasBit q (bitOr n (2 ^ b))) b (λ r. has-put-old b r n) b-small
       (first .fresh b-small) (has-put-same b n)
 
-pub following-done : {c a d e : List ℕ} (w m n b : ℕ) → Following c a w n d e → m ≡ getD a w 0 → First m n b → b ≡ 64 → FollowedWord c a w d e
+pub following-done : {c a d e : List ℕ} (w m n b : ℕ) → Following c a w n d e → m ≡ getD a w 0 → First m n b → b ≡ 64
+    → FollowedWord c a w d e
 following-done {c} {a} w m n b g word f q = record {
   all = λ r l x. g .done r l (f .none q r l (rw word (sym (word-bit a w r l) ∙ x)));
   old = g .old;

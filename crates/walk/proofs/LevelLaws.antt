@@ -1,6 +1,6 @@
 -- One number of a walk, from its parts. Assumes nothing.
 use mathlib.Core.Path.{_≡_, refl, sym, ap, _∙_, subst}
-use mathlib.Core.Bool.{Bool, true, false, false≢true, true≢false}
+use mathlib.Core.Bool.{true, false, false≢true, true≢false}
 use mathlib.Core.Logic.{_⊎_, inl, inr, ⊎-elim}
 use mathlib.Core.List.{List}
 use Prim.Native.Nat.{ℕ, _+_, _-_, _*_, _/_, _%_, _≤_, _<_}
@@ -26,7 +26,8 @@ or-zero x y e = let h = or-add-and x y in let g = and-le-l x y in let k = and-le
 no-bit : (b x : ℕ) → x ≡ 0 → hasBit b x ≡ true → ⊥
 no-bit b x e d = false≢true (sym (ap (hasBit b) e ∙ zero-has b) ∙ d)
 
-pub rest-law : (m v : List ℕ) (j : ℕ) → bitOr (bitOr (getD m (2 * j) 0) (getD m (2 * j + 1) 0)) (bitOr (getD v 0 0) (getD v 1 0)) ≡ 0 → AtRest m v j
+pub rest-law : (m v : List ℕ) (j : ℕ)
+    → bitOr (bitOr (getD m (2 * j) 0) (getD m (2 * j + 1) 0)) (bitOr (getD v 0 0) (getD v 1 0)) ≡ 0 → AtRest m v j
 rest-law m v j e =
     let f = or-zero (bitOr (getD m (2 * j) 0) (getD m (2 * j + 1) 0)) (bitOr (getD v 0 0) (getD v 1 0)) e in
     let g = or-zero (getD m (2 * j) 0) (getD m (2 * j + 1) 0) (f .0) in
@@ -126,7 +127,13 @@ module _ (t : Automaton) (ready : Ready t) (j : ℕ) (jn : j ≤ length (t .word
       let l = k .small in let z = k .exit in
       let ev = ready .special p (k .small) (k .special) in
       let o : (128 * j + s) / 128 ≡ j = omega arith in
-      inr (inr record { exit = omega arith; from = omega arith; to = omega arith; special = rw m (k .special); span = rw (m, n, o) (k .span) }))
+      inr (inr record {
+        exit = omega arith;
+        from = omega arith;
+        to = omega arith;
+        special = rw m (k .special);
+        span = rw (m, n, o) (k .span);
+      }))
       h)
 
   -- the marks at number j are the set
@@ -176,7 +183,7 @@ module _ (t : Automaton) (ready : Ready t) (j : ℕ) (jn : j ≤ length (t .word
         bit = rw n at (u .bit);
       }))
 
-  above-b : (q : ℕ) → bitAt b q ≡ true → (bitAt a q ≡ true) ⊎ (q / 128 ≤ j + 1)
+  above-b : (q : ℕ) → bitAt b q ≡ true → (bitAt a q ≡ true) ⊎ (q / 128 ≤ j)
   above-b q d = ⊎-elim (λ (z : bitAt a q ≡ true). inl z) (λ (z : PlaceOf e j q). let n = z .number in inr (omega arith)) (marked .only q d)
 
   tally-b : tallyBelow 128 (λ (s : ℕ). bitAt b (128 * j + s)) ≡ tallyBelow 128 (bitAt e)
@@ -192,6 +199,23 @@ module _ (t : Automaton) (ready : Ready t) (j : ℕ) (jn : j ≤ length (t .word
       record { small = i; entry = state-in (2 * (q / 256)) (omega arith) (u .entry); special = u .special; span = u .span })
       (saturated .exits)
 
+  -- steps that stay at number j
+  stays-b : (p q : ℕ) → p / 128 ≡ j → q / 128 ≡ j → bitAt b p ≡ true → Step t p q → bitAt b q ≡ true
+  stays-b p q n z d g =
+      let s = to-set p n d in
+      ⊎-elim
+      (λ (h : FreeStep (t .closed) p q).
+      let f : FreeMove (t .closed) (p % 128) (q % 128) = record { from = omega arith; to = omega arith; move = h .move } in
+      from-place q z (saturated .free (p % 128) (q % 128) f s))
+      (λ g′.
+      ⊎-elim (λ (h : LetterStep (t .letters) (t .word) p q). let k = h .exit in absurd (omega arith))
+      (λ (h : SpanStep (t .specials) (t .rows) (t .table) (length (t .word)) p q).
+      let k : SpanHere (t .specials) (t .rows) (t .table) j (p % 128) (q % 128) =
+      record { small = omega arith; special = h .special; exit = h .exit; span = rw (n, z) at (h .span) } in
+      from-place q z (saturated .here (p % 128) (q % 128) k s))
+      g′)
+      g
+
   pub level-spent : (count limit c : ℕ) → c ≡ tallyBelow 128 (bitAt e) → limit < count + c → count ≤ limit
       → Levelled t j count limit a x v b y v count true
   level-spent count limit c k l m =
@@ -200,14 +224,15 @@ module _ (t : Automaton) (ready : Ready t) (j : ℕ) (jn : j ≤ length (t .word
         old = marked .old;
         below = below-b;
         only = only-b;
-        above = above-b;
+        above = λ q d. ⊎-elim (λ (z : bitAt a q ≡ true). inl z) (λ (z : q / 128 ≤ j). inr (inl z)) (above-b q d);
         waiting = waiting-b;
         exits = exits-b;
+        stays = stays-b;
         closed = λ f. absurd (true≢false f);
         known = λ f. absurd (true≢false f);
         inside = inside;
         counted = λ f. absurd (true≢false f);
-        full = λ _. omega arith;
+        full = λ _. (refl, omega arith);
         bounded = m;
         long = marked .long;
         two = refl;
@@ -232,49 +257,48 @@ module _ (t : Automaton) (ready : Ready t) (j : ℕ) (jn : j ≤ length (t .word
         record { small = i; entry = back (128 * j + 2 * (q / 256)) (omega arith) (u .entry); special = u .special; span = u .span })
         exits-b
 
+    stays-b′ : (p q : ℕ) → p / 128 ≡ j → q / 128 ≡ j → bitAt b′ p ≡ true → Step t p q → bitAt b′ q ≡ true
+    stays-b′ p q n z d g = read .old q (stays-b p q n z (back p (omega arith) d) g)
+
+    -- a span that leads on
+    span-on : (p q : ℕ) → p / 128 ≡ j → (q / 128 ≡ j → ⊥) → bitAt e (p % 128) ≡ true
+        → SpanStep (t .specials) (t .rows) (t .table) (length (t .word)) p q → (j < q / 128) × Pending y q
+    span-on p q n z s h =
+        let f = h .from in let o = h .to in let ex = h .exit in
+        let jw = ready .word in
+        let ev = ready .special (p % 128) (omega arith) (h .special) in
+        let od : q % 2 ≡ 1 = omega arith in
+        let c = coming-of q od (omega arith) in
+        let m : q % 128 - 1 ≡ p % 128 = omega arith in
+        let i = c .entry ∙ m in
+        let k = c .node ∙ ap (λ (r : ℕ). r / 2) m in
+        let u : SpanExit (t .specials) (t .rows) (t .table) j e (c .place) = record {
+          small = c .small;
+          entry = rw i s;
+          special = rw i (h .special);
+          span = rw (k, c .number) (rw n at (h .span));
+        } in
+        (omega arith, record { odd = od; bit = ap (bitAt y) (sym (c .is)) ∙ saturated .exits .new (c .place) u })
+
     closed-b : (p q : ℕ) → p / 128 ≡ j → bitAt b′ p ≡ true → Step t p q → (bitAt b′ q ≡ true) ⊎ ((j < q / 128) × Pending y q)
     closed-b p q n d g =
         let s = to-set p n (back p (omega arith) d) in
-        ⊎-elim
-        (λ (h : FreeStep (t .closed) p q).
-        let k = h .number in
-        let f : FreeMove (t .closed) (p % 128) (q % 128) = record { from = omega arith; to = omega arith; move = h .move } in
-        inl (read .old q (from-place q (omega arith) (saturated .free (p % 128) (q % 128) f s))))
+        ⊎-elim (λ (z : q / 128 ≡ j). inl (stays-b′ p q n z d g))
+        (λ (z : q / 128 ≡ j → ⊥).
+        ⊎-elim (λ (h : FreeStep (t .closed) p q). let k = h .number in absurd (z (omega arith)))
         (λ g′.
         ⊎-elim
         (λ (h : LetterStep (t .letters) (t .word) p q).
         let k = h .exit in
         let i = h .within in
-        inl (read .new q (omega arith, record { state = p % 128; small = omega arith; exit = omega arith; there = s; event = rw n at (h .event) })))
-        (λ (h : SpanStep (t .specials) (t .rows) (t .table) (length (t .word)) p q). spanned p q n s h)
+        inl (read .new q (
+          omega arith,
+          record { state = p % 128; small = omega arith; exit = omega arith; there = s; event = rw n at (h .event) },
+        )))
+        (λ (h : SpanStep (t .specials) (t .rows) (t .table) (length (t .word)) p q). inr (span-on p q n z s h))
         g′)
-        g
-      where
-        spanned : (p q : ℕ) → p / 128 ≡ j → bitAt e (p % 128) ≡ true → SpanStep (t .specials) (t .rows) (t .table) (length (t .word)) p q
-            → (bitAt b′ q ≡ true) ⊎ ((j < q / 128) × Pending y q)
-        spanned p q n s h =
-            let f = h .from in let o = h .to in let ex = h .exit in
-            let jw = ready .word in
-            let ev = ready .special (p % 128) (omega arith) (h .special) in
-            let od : q % 2 ≡ 1 = omega arith in
-            ⊎-elim
-            (λ (z : q / 128 ≡ j).
-            let k : SpanHere (t .specials) (t .rows) (t .table) j (p % 128) (q % 128) =
-            record { small = omega arith; special = h .special; exit = ex; span = rw (n, z) at (h .span) } in
-            inl (read .old q (from-place q z (saturated .here (p % 128) (q % 128) k s))))
-            (λ (z : q / 128 ≡ j → ⊥).
-            let c = coming-of q od (omega arith) in
-            let m : q % 128 - 1 ≡ p % 128 = omega arith in
-            let i = c .entry ∙ m in
-            let k = c .node ∙ ap (λ (r : ℕ). r / 2) m in
-            let u : SpanExit (t .specials) (t .rows) (t .table) j e (c .place) = record {
-              small = c .small;
-              entry = rw i s;
-              special = rw i (h .special);
-              span = rw (k, c .number) (rw n at (h .span));
-            } in
-            inr (omega arith, record { odd = od; bit = ap (bitAt y) (sym (c .is)) ∙ saturated .exits .new (c .place) u }))
-            (same-or-not (q / 128) j)
+        g)
+        (same-or-not (q / 128) j)
 
     pub level-done : (count limit c : ℕ) {u inner : List ℕ} → Common e (t .specials) inner → Adds v (StateOf inner) u
         → c ≡ tallyBelow 128 (bitAt e) → count + c ≤ limit → Levelled t j count limit a x v b′ y u (count + c) false
@@ -293,14 +317,17 @@ module _ (t : Automaton) (ready : Ready t) (j : ℕ) (jn : j ≤ length (t .word
           (inr (inl record { exit = ex; within = rw n′ (z .0); event = rw (n′, m′) (p .event) })))
           (read .only q d);
       above = λ q d.
-          ⊎-elim (λ (z : bitAt b q ≡ true). above-b q z)
+          ⊎-elim
+          (λ (z : bitAt b q ≡ true).
+          ⊎-elim (λ (z : bitAt a q ≡ true). inl z) (λ (z : q / 128 ≤ j). inr (inl z)) (above-b q z))
           (λ z.
           let i = z .1 .small in let ex = z .1 .exit in
           let ev = ready .letter (getD (t .word) j 0) (z .1 .state) (z .1 .small) (z .1 .event) in
-          inr (omega arith))
+          inr (inr (refl, omega arith)))
           (read .only q d);
       waiting = λ p n w′. read .old p (waiting-b p n w′);
       exits = exits-b′;
+      stays = stays-b′;
       closed = λ _. closed-b;
       known = λ _ q i d.
           ⊎-elim (λ (z : bitAt x q ≡ true). o .old (2 * (q / 256)) (known q i z))

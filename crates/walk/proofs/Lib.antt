@@ -1,5 +1,5 @@
--- What walks come to.
-pub mod Reaching
+-- What a walk comes to where the limit is spent.
+pub mod Spent
 -- Laws that the proofs of its functions cite.
 mod Tallies
 mod SetLaws

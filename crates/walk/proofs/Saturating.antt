@@ -1,17 +1,24 @@
 -- The states of one number: free moves followed, special nodes entered one by one. Assumes nothing.
-use mathlib.Core.Path.{_≡_, refl, sym, ap, _∙_, subst}
+use mathlib.Core.Path.{_≡_, refl, sym, _∙_, subst}
 use mathlib.Core.Bool.{true, false, false≢true}
 use mathlib.Core.Logic.{_⊎_, inl, inr, ⊎-elim}
 use mathlib.Core.List.{List}
-use Prim.Native.Nat.{ℕ, _+_, _-_, _*_, _/_, _%_, _≤_, _<_}
+use Prim.Native.Nat.{ℕ, _+_, _-_, _*_, _/_, _<_}
 use native.Mathlib.Omega.{arith}
 use lib.ListN.{length, getD, replicate}
 use Rattle.bits.specs.Bit.{bitAt, Put, Adds}
 use Rattle.bits.proofs.Laws.{put-adds, adds-none, adds-then, adds-as, zeros-bit}
 use Rattle.moves.specs.Reached.{Reached, start, after}
 use Rattle.moves.specs.Moves.{FreeMove}
-use Rattle.walk.specs.Automaton.{Entries, Transitive}
+use Rattle.walk.specs.Automaton.{Room, Entries, Transitive}
 use Rattle.walk.specs.Levels.{Missing, Common, StateOf, PutIf, LedFrom, Followed, RowExit, SpanHere, StepHere, SpanExit, Saturated}
+
+-- what is given of the automaton's lists
+pub record Ground (c specials rows table : List ℕ) (j : ℕ) : Type 0 where
+  pub transitive : Transitive c
+  pub even : Entries specials
+  pub room : Room rows j (length table)
+  pub small : j < 256
 
 module _ (c specials rows table : List ℕ) (j : ℕ) (a x : List ℕ) where
   -- the states that are reached at number j
@@ -20,6 +27,7 @@ module _ (c specials rows table : List ℕ) (j : ℕ) (a x : List ℕ) where
 
   -- what holds at each turn: todo is to be followed, the special nodes of entered are entered, and the set is closed under free moves
   pub record Saturating (todo y entered set : List ℕ) : Type 0 where
+    pub ground : Ground c specials rows table j
     pub base : (s : ℕ) → bitAt a s ≡ true → bitAt todo s ≡ true
     pub work : (s : ℕ) → s < 128 → bitAt todo s ≡ true → Here s
     pub only : (s : ℕ) → s < 128 → bitAt set s ≡ true → Here s
@@ -32,8 +40,9 @@ module _ (c specials rows table : List ℕ) (j : ℕ) (a x : List ℕ) where
   no-bit : (s : ℕ) → bitAt (replicate 2 0) s ≡ true → ⊥
   no-bit s e = false≢true (sym (zeros-bit 2 s) ∙ e)
 
-  pub saturating-start : length a ≡ 2 → length x ≡ 256 → Saturating a x (replicate 2 0) (replicate 2 0)
-  saturating-start p q = record {
+  pub saturating-start : Ground c specials rows table j → length a ≡ 2 → length x ≡ 256 → Saturating a x (replicate 2 0) (replicate 2 0)
+  saturating-start u p q = record {
+    ground = u;
     base = λ s e. e;
     work = λ s l e. start record { small = l; there = e };
     only = λ s l e. absurd (no-bit s e);
@@ -44,9 +53,10 @@ module _ (c specials rows table : List ℕ) (j : ℕ) (a x : List ℕ) where
     lengths = (p, q, refl, refl);
   }
 
-  pub saturating-follow : Transitive c → {todo y entered set set′ : List ℕ} → Saturating todo y entered set → Followed c todo set set′
+  pub saturating-follow : {todo y entered set set′ : List ℕ} → Saturating todo y entered set → Followed c todo set set′
       → Saturating todo y entered set′
-  saturating-follow transitive {todo} {y} {entered} {set} {set′} g f = record {
+  saturating-follow {todo} {y} {entered} {set} {set′} g f = record {
+    ground = g .ground;
     base = g .base;
     work = g .work;
     only = λ s l e.
@@ -56,7 +66,8 @@ module _ (c specials rows table : List ℕ) (j : ℕ) (a x : List ℕ) where
         (f .only s l e);
     free = λ s t h e.
         ⊎-elim (λ (z : bitAt set s ≡ true). f .old t (g .free s t h z))
-        (λ (z : LedFrom c todo set′ s). z .rest t (h .to) (transitive s (z .by) t (h .from) (z .small) (h .to) (z .leads) (h .move)))
+        (λ (z : LedFrom c todo set′ s).
+        z .rest t (h .to) (g .ground .transitive s (z .by) t (h .from) (z .small) (h .to) (z .leads) (h .move)))
         (f .only s (h .from) e);
     inside = λ s l e. f .old s (g .inside s l e);
     exit = g .exit;
@@ -64,7 +75,7 @@ module _ (c specials rows table : List ℕ) (j : ℕ) (a x : List ℕ) where
     lengths = let n = g .lengths in (n .0, n .1, n .2, f .long ∙ n .3);
   }
 
-  module _ (even : Entries specials) {todo y entered set inner : List ℕ} {s : ℕ} (g : Saturating todo y entered set)
+  module _ {todo y entered set inner : List ℕ} {s : ℕ} (g : Saturating todo y entered set)
       (m : Common set specials inner) (n : Missing inner entered s) where
     pub saturating-done : ((r : ℕ) → r < 128 → bitAt todo r ≡ true → bitAt set r ≡ true) → s ≡ 128
         → Saturated c specials rows table j a x set y
@@ -73,7 +84,7 @@ module _ (c specials rows table : List ℕ) (j : ℕ) (a x : List ℕ) where
       only = g .only;
       free = g .free;
       here = λ r t p d.
-          let k = even r (p .small) (p .special) in
+          let k = g .ground .even r (p .small) (p .special) in
           let z = p .exit in
           let b = p .small in
           h t (omega arith) (g .exit r t p (n .none e r (p .small) (m .both r (p .small) d (p .special))));
@@ -105,13 +116,13 @@ module _ (c specials rows table : List ℕ) (j : ℕ) (a x : List ℕ) where
 
       -- an entry is below 127, for its exit
       pub entry-small : s < 127
-      entry-small = let l = s-small in let e = even s s-small here in omega arith
+      entry-small = let l = s-small in let e = g .ground .even s s-small here in omega arith
 
       module _ {entered′ y′ todo′ : List ℕ} (p : Put entered s entered′) (r : ℕ) (r-is : r ≡ getD rows (s / 2) 0 + j)
           (d : Adds y (RowExit table r (s / 2)) y′) (w : Adds todo (PutIf table (256 * r + j) (s + 1)) todo′) where
         exits-on : Adds x (SpanExit specials rows table j entered′) y′
         exits-on =
-            let ev = even s s-small here in
+            let ev = g .ground .even s s-small here in
             let l = s-small in
             adds-as
             (λ q u.
@@ -135,6 +146,7 @@ module _ (c specials rows table : List ℕ) (j : ℕ) (a x : List ℕ) where
 
         pub saturating-turn : Saturating todo′ y′ entered′ set
         saturating-turn = record {
+          ground = g .ground;
           base = λ t k. w .old t (g .base t k);
           work = λ t k z.
               ⊎-elim (λ (i : bitAt todo t ≡ true). g .work t k i)

@@ -3,14 +3,15 @@ use mathlib.Core.Path.{_≡_, refl, sym, ap, _∙_, subst}
 use mathlib.Core.Bool.{Bool, true, false}
 use mathlib.Core.Logic.{_⊎_, inl, inr, ⊎-elim}
 use mathlib.Core.List.{List}
-use Prim.Native.Nat.{ℕ, _+_, _-_, _*_, _/_, _%_, min, _≤_, _<_}
+use Prim.Native.Nat.{ℕ, _+_, _-_, _*_, _/_, _%_, _≤_, _<_}
 use native.Mathlib.Omega.{arith}
 use lib.ListN.{getD}
 use lib.Bits.{bitAnd}
 use borrow.Author.Tests.{eq-eqb, eqb-true}
 use Rattle.bits.specs.Bit.{hasBit, bitAt, Put, Merged, Adds, First}
 use Rattle.bits.proofs.Digits.{below-or-not, digit, has-digit, digit-lt, digit-and}
-use Rattle.bits.proofs.Laws.{put-adds, merged-adds, adds-none, adds-then, adds-as}
+use Rattle.bits.proofs.Laws.{put-adds, adds-as}
+use Rattle.moves.proofs.RowLaws.{row-merged}
 use Rattle.walk.specs.Levels.{Missing, Common, StateOf, PutIf, StatesAt, PlaceOf}
 
 -- ---- the bits of a set, by its two numbers
@@ -103,7 +104,8 @@ module _ (a b r : List ℕ) (h : ℕ) (e : getD r h 0 ≡ bitAnd (getD a h 0) (g
 by-words : (P : ℕ → Type 0) → ((h s : ℕ) → (h ≡ 0) ⊎ (h ≡ 1) → s < 64 → P (64 * h + s)) → (s : ℕ) → s < 128 → P s
 by-words P f = by-half P (λ s l. let e : 64 * 0 + s ≡ s = omega arith in subst P e (f 0 s (inl refl) l)) (λ s l. f 1 s (inr refl) l)
 
-pub common-law : (a b r : List ℕ) → getD r 0 0 ≡ bitAnd (getD a 0 0) (getD b 0 0) → getD r 1 0 ≡ bitAnd (getD a 1 0) (getD b 1 0) → Common a b r
+pub common-law : (a b r : List ℕ) → getD r 0 0 ≡ bitAnd (getD a 0 0) (getD b 0 0) → getD r 1 0 ≡ bitAnd (getD a 1 0) (getD b 1 0)
+    → Common a b r
 common-law a b r e f = record {
   both = by-words (λ (s : ℕ). bitAt a s ≡ true → bitAt b s ≡ true → bitAt r s ≡ true) (λ h s i l. both-at a b r h (each h i) s l);
   left = by-words (λ (s : ℕ). bitAt r s ≡ true → bitAt a s ≡ true) (λ h s i l. left-at a b r h (each h i) s l);
@@ -131,23 +133,13 @@ states-law a r j e f =
     let d : 128 * j + (64 + s) ≡ 64 * (2 * j + 1) + s = omega arith in
     high-bit r s l ∙ ap (hasBit s) f ∙ sym (ap (bitAt a) d ∙ word-bit a (2 * j + 1) s l))
 
--- the bit of a set that stands in one of the two numbers of number j
-set-bit : (e : List ℕ) (j q h : ℕ) → h < 2 → q / 64 ≡ 2 * j + h → bitAt e (q % 128) ≡ hasBit (q % 64) (getD e h 0)
-set-bit e j q h l n = let m : q % 128 ≡ 64 * h + q % 64 = omega arith in ap (bitAt e) m ∙ word-bit e h (q % 64) (omega arith)
-
 pub place-law : (e : List ℕ) {a b c : List ℕ} (j : ℕ) → Merged a (2 * j) (getD e 0 0) b → Merged b (2 * j + 1) (getD e 1 0) c
     → Adds a (PlaceOf e j) c
 place-law e j f g =
     adds-as
-    (λ q r.
-    ⊎-elim (λ x. let y = x .0 in record { number = omega arith; there = set-bit e j q 0 (omega arith) (omega arith) ∙ x .1 })
-    (λ x. let y = x .0 in record { number = omega arith; there = set-bit e j q 1 (omega arith) (omega arith) ∙ x .1 }) r)
-    (λ q r.
-    let n = r .number in
-    ⊎-elim (λ (x : q % 128 < 64). inl (omega arith, sym (set-bit e j q 0 (omega arith) (omega arith)) ∙ r .there))
-    (λ (x : 64 ≤ q % 128). inr (omega arith, sym (set-bit e j q 1 (omega arith) (omega arith)) ∙ r .there))
-    (below-or-not (q % 128) 64))
-    (adds-then (merged-adds f) (merged-adds g))
+    (λ q u. let y : 128 * 0 + q % 128 ≡ q % 128 = omega arith in record { number = u .0; there = rw y at (u .1) })
+    (λ q u. let y : 128 * 0 + q % 128 ≡ q % 128 = omega arith in (u .number, rw y (u .there)))
+    (row-merged e j 0 f g)
 
 pub state-law : (e : List ℕ) {a b c : List ℕ} → Merged a 0 (getD e 0 0) b → Merged b 1 (getD e 1 0) c → Adds a (StateOf e) c
 state-law e f g =

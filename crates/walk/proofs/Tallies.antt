@@ -6,7 +6,7 @@ use Prim.Native.Nat.{ℕ, zero, suc, _+_, _-_, _*_, _^_, _≤_, _<_}
 use native.Mathlib.Omega.{arith}
 use lib.ListN.{getD}
 use lib.Count.{ones}
-use Rattle.bits.specs.Bit.{hasBit, bitAt, onesOf, indicator, tallyBelow, packed, packedRun, Put}
+use Rattle.bits.specs.Bit.{hasBit, bitAt, onesOf, indicator, tallyBelow, packedRun, Put}
 use Rattle.bits.proofs.Laws.{put-adds}
 use Rattle.bits.proofs.Tally.{tally-same, tally-add}
 use Rattle.bits.proofs.Packed.{packed-is, run-ones}

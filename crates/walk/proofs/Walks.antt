@@ -11,11 +11,11 @@ use Rattle.bits.proofs.Digits.{below-or-not, same-or-not}
 use Rattle.bits.proofs.Laws.{zeros-bit}
 use Rattle.bits.proofs.Tally.{tally-same, tally-none, tally-add}
 use Rattle.moves.specs.Reached.{Reached, start, after}
+use Rattle.moves.proofs.Paths.{reached-from}
 use Rattle.walk.specs.Automaton.{Automaton, FreeStep, LetterStep, SpanStep, Step, Ready, Walked}
 use Rattle.walk.specs.Levels.{Among, AtRest, Pending, OfOpen, MarkedExit, Given, Levelled}
-use Rattle.walk.proofs.Reaching.{reached-from}
 use Rattle.walk.proofs.SetLaws.{same-bits}
-use Rattle.walk.proofs.Tallies.{tally-up, tally-level}
+use Rattle.walk.proofs.Tallies.{tally-level}
 use Rattle.walk.proofs.LevelLaws.{coming-of, known-entry}
 
 -- a step does not lead past the word's end
@@ -28,6 +28,15 @@ step-within t r p q g h =
     let e = f .exit in let w = f .within in
     let y = r .letter (getD (t .word) (p / 128) 0) (p % 128) (omega arith) (f .event) in omega arith)
     (λ (f : SpanStep (t .specials) (t .rows) (t .table) (length (t .word)) p q). f .to) g′)
+    g
+
+-- a step does not lead back
+step-on : (t : Automaton) (p q : ℕ) → Step t p q → p / 128 ≤ q / 128
+step-on t p q g =
+    ⊎-elim (λ (f : FreeStep (t .closed) p q). let e = f .number in omega arith)
+    (λ g′.
+    ⊎-elim (λ (f : LetterStep (t .letters) (t .word) p q). let e = f .exit in omega arith)
+    (λ (f : SpanStep (t .specials) (t .rows) (t .table) (length (t .word)) p q). f .from) g′)
     g
 
 -- a test that cannot pass fails
@@ -43,7 +52,8 @@ pub record Begun (t : Automaton) (i : ℕ) (a : List ℕ) : Type 0 where
   pub long : length a ≡ 512
 
 -- all that is reached is within the word
-reached-within : {t : Automaton} {i : ℕ} {a : List ℕ} → Begun t i a → {q : ℕ} → Reached (λ (p : ℕ). bitAt a p ≡ true) (Step t) q → q / 128 ≤ length (t .word)
+reached-within : {t : Automaton} {i : ℕ} {a : List ℕ} → Begun t i a
+    → {q : ℕ} → Reached (λ (p : ℕ). bitAt a p ≡ true) (Step t) q → q / 128 ≤ length (t .word)
 reached-within {t} u {q} (start s) = let n = u .marked q s in let m = u .number in omega arith
 reached-within {t} u {q} (after {p} r h) = step-within t (u .ready) p q h (reached-within u r)
 
@@ -91,14 +101,16 @@ module _ {t : Automaton} {i count limit : ℕ} {a : List ℕ} where
     only-on q e = reached-from base (l .only q e)
 
     tally-below : tallyBelow (128 * j) (bitAt b) ≡ tallyBelow (128 * j) (bitAt b′)
-    tally-below = tally-same (128 * j) (bitAt b) (bitAt b′) (λ s k. same-bits (bitAt b s) (bitAt b′ s) (l .old s) (l .below s (omega arith)))
+    tally-below =
+        tally-same (128 * j) (bitAt b) (bitAt b′) (λ s k. same-bits (bitAt b s) (bitAt b′ s) (l .old s) (l .below s (omega arith)))
 
     coming-on : (q : ℕ) → j + 1 ≤ q / 128 → q / 128 ≤ length (t .word) → Pending x′ q → Reached (λ (p : ℕ). bitAt a p ≡ true) (Step t) q
     coming-on q m n w =
         let jw = g .begun .ready .word in
         let k = coming-of q (w .odd) (omega arith) in
         let ex = k .exit in
-        ⊎-elim (λ (e : bitAt x (k .place) ≡ true). g .coming q (omega arith) n record { odd = w .odd; bit = ap (bitAt x) (sym (k .is)) ∙ e })
+        ⊎-elim
+        (λ (e : bitAt x (k .place) ≡ true). g .coming q (omega arith) n record { odd = w .odd; bit = ap (bitAt x) (sym (k .is)) ∙ e })
         (λ (e : MarkedExit t b′ j (k .place)).
         let pm : (128 * j + (q % 128 - 1)) % 128 ≡ q % 128 - 1 = omega arith in
         let pn : (128 * j + (q % 128 - 1)) / 128 ≡ j = omega arith in
@@ -143,7 +155,8 @@ module _ {t : Automaton} {i count limit : ℕ} {a : List ℕ} where
           coming = coming-on;
           closed = closed-on f;
           above = λ q e.
-              ⊎-elim (λ (z : bitAt b q ≡ true). let n = g .above q z in omega arith) (λ (z : q / 128 ≤ j + 1). z) (l .above q e);
+              ⊎-elim (λ (z : bitAt b q ≡ true). let n = g .above q z in omega arith)
+              (λ z. ⊎-elim (λ (y : q / 128 ≤ j). omega arith) (λ y. y .1) z) (l .above q e);
           known = l .known f;
           inside = l .inside;
           counted = omega arith;
@@ -152,17 +165,34 @@ module _ {t : Automaton} {i count limit : ℕ} {a : List ℕ} where
           lengths = (l .long ∙ ln .0, l .exits .long ∙ ln .1, l .two ∙ ln .2);
         }
 
+    -- all that is reached up to number j is marked
+    up-to : {q : ℕ} → Reached (λ (p : ℕ). bitAt a p ≡ true) (Step t) q → q / 128 ≤ j → bitAt b′ q ≡ true
+    up-to {q} (start s) h = l .old q (g .old q s)
+    up-to {q} (after {p} r d) h =
+        let o = step-on t p q d in
+        let u = up-to r (omega arith) in
+        ⊎-elim
+        (λ (k : p / 128 < j).
+        ⊎-elim (λ (z : bitAt b q ≡ true). l .old q z) (λ z. let n = z .0 in l .waiting q (omega arith) (z .1))
+        (g .closed p q k (l .below p k u) d))
+        (λ (k : j ≤ p / 128). l .stays p q (omega arith) (omega arith) u d)
+        (below-or-not (p / 128) j)
+
     pub before-spent : spent ≡ true → Walked t count limit a b′ c′ spent
     before-spent f =
         let cx = g .counted in
         let cy = l .full f in
         let cz = tally-level b′ j in
         let ce = tally-below in
-        let cu = tally-up (bitAt b′) (128 * (j + 1)) (128 * (length (t .word) + 1)) (omega arith) in
         record {
+          stop = j;
           only = only-on;
-          all = λ z. absurd (true≢false (sym f ∙ z));
+          all = λ q h r. up-to r (h f);
+          above = λ _ q e.
+              ⊎-elim (λ (z : bitAt b q ≡ true). g .above q z)
+              (λ z. ⊎-elim (λ (y : q / 128 ≤ j). y) (λ y. absurd (true≢false (sym f ∙ y .0))) z) (l .above q e);
           counted = λ z. absurd (true≢false (sym f ∙ z));
+          before = λ _. (jn, omega arith);
           full = λ _. omega arith;
           bounded = l .bounded;
           long = l .long ∙ g .lengths .0 ∙ sym (g .begun .long);
@@ -172,9 +202,12 @@ module _ {t : Automaton} {i count limit : ℕ} {a : List ℕ} where
   finished : {b x v : List ℕ} {c j : ℕ} → Before t i count limit j a b x v c → ((q : ℕ) → bitAt b q ≡ true → q / 128 < j)
       → ((q : ℕ) → j ≤ q / 128 → q / 128 ≤ length (t .word) → Pending x q → ⊥) → Walked t count limit a b c false
   finished {b} {x} {v} {c} {j} g marked over = record {
+    stop = length (t .word);
     only = g .only;
-    all = λ _ q r. every r;
+    all = λ q _ r. every r;
+    above = λ f. absurd (false≢true f);
     counted = λ _. let n = none in let d = g .counted in omega arith;
+    before = λ f. absurd (false≢true f);
     full = λ f. absurd (false≢true f);
     bounded = g .bounded;
     long = g .lengths .0 ∙ sym (g .begun .long);

@@ -84,11 +84,15 @@ pub record Ready (t : Automaton) : Type 0 where
 
 -- ---- what a walk leaves
 
--- b is a with all marked that is reached from its marks, and c is count and as many more, if that is within the limit
+-- b is a with all marked that is reached from its marks, and c is count and as many more. Where that would be more than the limit, the limit
+-- is spent: marked is what is reached up to number stop, at which the limit is passed, and counted what is reached before it
 pub record Walked (t : Automaton) (count limit : ℕ) (a b : List ℕ) (c : ℕ) (spent : Bool) : Type 0 where
+  pub stop : ℕ
   pub only : (q : ℕ) → bitAt b q ≡ true → Reached (λ (p : ℕ). bitAt a p ≡ true) (Step t) q
-  pub all : spent ≡ false → (q : ℕ) → Reached (λ (p : ℕ). bitAt a p ≡ true) (Step t) q → bitAt b q ≡ true
+  pub all : (q : ℕ) → (spent ≡ true → q / 128 ≤ stop) → Reached (λ (p : ℕ). bitAt a p ≡ true) (Step t) q → bitAt b q ≡ true
+  pub above : spent ≡ true → (q : ℕ) → bitAt b q ≡ true → q / 128 ≤ stop
   pub counted : spent ≡ false → c ≡ count + tallyBelow (128 * (length (t .word) + 1)) (bitAt b)
-  pub full : spent ≡ true → limit < count + tallyBelow (128 * (length (t .word) + 1)) (bitAt b)
+  pub before : spent ≡ true → (stop ≤ length (t .word)) × (c ≡ count + tallyBelow (128 * stop) (bitAt b))
+  pub full : spent ≡ true → limit < count + tallyBelow (128 * (stop + 1)) (bitAt b)
   pub bounded : c ≤ limit
   pub long : length b ≡ length a

@@ -168,14 +168,15 @@ pub record Levelled (t : Automaton) (j count limit : ℕ) (a x v b y u : List �
   pub old : (q : ℕ) → bitAt a q ≡ true → bitAt b q ≡ true
   pub below : (q : ℕ) → q / 128 < j → bitAt b q ≡ true → bitAt a q ≡ true
   pub only : (q : ℕ) → bitAt b q ≡ true → Reached (Given a x j) (Step t) q
-  pub above : (q : ℕ) → bitAt b q ≡ true → (bitAt a q ≡ true) ⊎ (q / 128 ≤ j + 1)
+  pub above : (q : ℕ) → bitAt b q ≡ true → (bitAt a q ≡ true) ⊎ ((q / 128 ≤ j) ⊎ ((spent ≡ false) × (q / 128 ≤ j + 1)))
   pub waiting : (p : ℕ) → p / 128 ≡ j → Pending x p → bitAt b p ≡ true
   pub exits : Adds x (MarkedExit t b j) y
+  pub stays : (p q : ℕ) → p / 128 ≡ j → q / 128 ≡ j → bitAt b p ≡ true → Step t p q → bitAt b q ≡ true
   pub closed : spent ≡ false → (p q : ℕ) → p / 128 ≡ j → bitAt b p ≡ true → Step t p q → (bitAt b q ≡ true) ⊎ ((j < q / 128) × Pending y q)
   pub known : spent ≡ false → OfOpen y u
   pub inside : Among u (t .specials)
   pub counted : spent ≡ false → c ≡ count + tallyBelow 128 (λ (s : ℕ). bitAt b (128 * j + s))
-  pub full : spent ≡ true → limit < count + tallyBelow 128 (λ (s : ℕ). bitAt b (128 * j + s))
+  pub full : spent ≡ true → (c ≡ count) × (limit < count + tallyBelow 128 (λ (s : ℕ). bitAt b (128 * j + s)))
   pub bounded : c ≤ limit
   pub long : length b ≡ length a
   pub two : length u ≡ length v

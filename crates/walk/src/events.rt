@@ -38,7 +38,8 @@ pub fn read_next(letters: &[u64], word: &[u8], marks: &mut [u64], set: &[u64], j
     requires { ⌜ (length (now letters) ≡ 512) × (length (now marks) ≡ 512) × (length (now set) ≡ 2) ⌝ }
     requires { ⌜ (j ≤ length (now word)) × (length (now word) ≤ 255) ⌝ }
     requires { ⌜ ((e s : ℕ) → s < 128 → bitAt (now letters) (128 * e + s) ≡ true → s % 2 ≡ 0) ⌝ }
-    ensures { λ _. ⌜ Adds (now (marks .entry)) (NextExit (now (letters .entry)) (now (word .entry)) (now (set .entry)) j) (now (marks .exit)) ⌝ }
+    ensures { λ _. ⌜ Adds
+        (now (marks .entry)) (NextExit (now (letters .entry)) (now (word .entry)) (now (set .entry)) j) (now (marks .exit)) ⌝ }
 {
     if j == word.len() {
         return;

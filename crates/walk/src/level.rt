@@ -46,6 +46,7 @@ fn saturate(
         if s == 128 {
             return set;
         }
+        // Each special node is entered once; where its block has the span of no event, its exit is reached at once.
         bits::put(&mut entered, s);
         let r = rows[s / 2] + j;
         add_row(table, exits, r, s / 2);

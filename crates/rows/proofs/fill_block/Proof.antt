@@ -18,8 +18,10 @@ abbrev μ-loop : tie.MeasureT-loop
 pub fill-block-spec : {M : Type 1} → statement M
 fill-block-spec =
     tie.close (tie.spec Inv-loop μ-loop
+    -- loop-holds
     (λ c. let p = c .before .before .before .before .before .before .pre in filling-start (p .0) (p .1 .1 .1) (p .1 .1 .0 .4))
     (λ c. search needs)
+    -- fill-start-requires
     (λ c κs.
     let g = c .before .before .loop .inv in
     let p = c .before .before .before .before .before .before .before .before .before .pre .1 in
@@ -29,8 +31,17 @@ fill-block-spec =
     let q = p .1 .0 in
     (filling-ready g, ((omega arith, omega arith, n), (q .0, q .1, q .2, q .3, g .bounded))))
     (λ c. search needs)
-    (λ c. filling-spent (c .before .before .before .before .before .before .loop .inv) (c .before .before .before .before .before .loop-test .taken) (c .before .before .before .fill-start .ensures) (c .if1 .taken))
+    -- returns
+    (λ c.
+    let s = c .before .before .before in
+    let t = s .before .before in
+    filling-spent (t .before .loop .inv) (t .loop-test .taken) (s .fill-start .ensures) (c .if1 .taken))
     (λ c. search needs) (λ c. search needs)
-    (λ c. filling-turn (c .before .before .before .before .before .before .loop .inv) (c .before .before .before .before .before .loop-test .taken) (c .before .before .before .fill-start .ensures) (c .if1 .left))
+    -- loop-again
+    (λ c.
+    let s = c .before .before .before in
+    let t = s .before .before in
+    filling-turn (t .before .loop .inv) (t .loop-test .taken) (s .fill-start .ensures) (c .if1 .left))
     (λ c. search needs)
+    -- returns-2
     (λ c. filling-done (c .before .loop .inv) (c .loop-test .left)))

@@ -1,6 +1,5 @@
 -- `first_rows` has the first rows of all nodes. Assumes nothing.
 use Prim.Native.Nat.{_-_}
-use native.Mathlib.Omega.{arith}
 use borrow.Author.Needs.{needs}
 use Rattle.owners.proofs.RowLoops.{Placing, placing-begins, placing-on, placing-ends}
 use Rattle.owners.proofs.places.first_rows.Statement.{statement}

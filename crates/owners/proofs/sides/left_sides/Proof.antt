@@ -1,6 +1,5 @@
 -- `left_sides` has the left or only side of every node. Assumes nothing.
 use Prim.Native.Nat.{_-_}
-use native.Mathlib.Omega.{arith}
 use borrow.Author.Needs.{needs}
 use Rattle.owners.specs.Filling.{treeFrom}
 use Rattle.owners.proofs.SideLaws.{Siding, siding-begins, siding-known, siding-on, siding-ends}

@@ -1,7 +1,7 @@
 -- `fill_all` gives the special nodes their turns, and then the whole rule. Assumes nothing.
 use native.Mathlib.Omega.{arith}
 use borrow.Author.Needs.{needs}
-use Rattle.owners.proofs.Settings.{ready, relent, whole-room}
+use Rattle.owners.proofs.Settings.{ready, relent, whole-room, whole-exit}
 use Rattle.owners.proofs.Turning.{whole-turn, specials-spent}
 use Rattle.owners.proofs.Walkers.{whole-apart}
 use Rattle.owners.proofs.turns.fill_all.Statement.{statement}
@@ -19,8 +19,8 @@ fill-all-spec =
     let f = c .before .before .before .before in
     let s = f .before .before .before .before .before .before .before .before .before in
     let g = relent (f .fill-specials .kept .1 .1 .1 .1 .1 .1 .1 .1 .0) (s .pre) in
-    let r = whole-room g in
-    (ready g, ((r .0, r .1), ((r .2, r .3, r .2, r .3, f .fill-specials .ensures .bounded), whole-apart g _ _))))
+    let r = whole-exit g in
+    (ready g, (whole-room g, ((r .0, r .1, r .0, r .1, f .fill-specials .ensures .bounded), whole-apart g _ _))))
     (λ c. search needs)
     (λ c.
     let b = c .before .before in

@@ -9,7 +9,8 @@ use Rattle.owners.proofs.turns.fill_specials.Statement.{statement}
 use Rattle.owners.proofs.turns.fill_specials.Tie as tie
 
 abbrev Inv-loop : tie.InvT-loop
-Inv-loop nodes m lefts closed letters specials rows word table₀ limit c₀ i₀ table c i = Turning (treeFrom nodes m) word limit table₀ table c i
+Inv-loop nodes m lefts closed letters specials rows word table₀ limit c₀ i₀ table c i =
+    Turning (treeFrom nodes m) word limit table₀ table c i
 
 abbrev μ-loop : tie.MeasureT-loop
 μ-loop nodes m lefts closed letters specials rows word table₀ limit c₀ i₀ table c i = m - i

@@ -34,11 +34,10 @@ own-spec =
     let s = k .before .before .before .before .before .before .before .before .before .before in
     let e = sym (k .before .is-special .ensures) ∙ k .if1 .taken in
     let z = own-low (s .pre .0) (s .args .i) (s .pre .1 .1 .0) in
-    let y = own-past (s .pre .0) (s .args .i) (s .pre .1 .1 .0) e in
-    let r = own-room (s .pre .0) (s .args .i) (s .pre .1 .1 .0) in (
+    let y = own-past (s .pre .0) (s .args .i) (s .pre .1 .1 .0) e in (
       ready (s .pre .0),
       (
-        (r .0, r .1),
+        own-room (s .pre .0) (s .args .i) (s .pre .1 .1 .0),
         (
           (omega arith, omega (arith, z .0, z .1), omega (arith, y), omega (arith, z .1), s .pre .1 .1 .1),
           own-apart (s .pre .0) (s .args .i) (s .pre .1 .1 .0) (s .pre .1 .0) e _ _ refl refl,
@@ -51,7 +50,7 @@ own-spec =
     let k = f .before .before .before .before .before in
     let s = k .before .before .before .before .before .before .before .before .before .before in
     own-turn (s .pre .0) (s .args .i) (s .pre .1 .1 .0) (s .pre .1 .0) (sym (k .before .is-special .ensures) ∙ k .if1 .taken)
-    (f .fill-block .ensures) refl refl (f .before .before .before .before .is-complement .ensures))
+    (f .fill-block .ensures) (f .before .before .before .before .is-complement .ensures))
     (λ c.
     let s = c .before .before .before .before .before .before .before .before .before .before in
     plain-turn (s .pre .0) (s .args .i) (s .pre .1 .1 .0) (s .pre .1 .0) (sym (c .before .is-special .ensures) ∙ c .if1 .left)

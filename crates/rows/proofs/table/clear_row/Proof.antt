@@ -10,8 +10,10 @@ clear-row-spec =
     (λ c. search needs) (λ c κs. search needs) (λ c. search needs) (λ c. search needs) (λ c κs. search needs)
     (λ c. search needs) (λ c. search needs) (λ c κs. search needs) (λ c. search needs) (λ c. search needs)
     (λ c κs. search needs) (λ c. search needs)
+    -- returns
     (λ c.
     let f = c .before .before in
     let g = f .before .before .before .before in
     let h = g .before .before .before .before in
-    clear-law (h .before .before .before .before .before .before .before .args .r) (h .before .before .before .before .zero .ensures) (h .zero2 .ensures) (g .zero3 .ensures) (f .zero4 .ensures)))
+    let z = h .before .before .before .before in
+    clear-law (z .before .before .before .args .r) (z .zero .ensures) (h .zero2 .ensures) (g .zero3 .ensures) (f .zero4 .ensures)))

@@ -17,12 +17,14 @@ abbrev μ-loop : tie.MeasureT-loop
 pub write-row-spec : {M : Type 1} → statement M
 write-row-spec =
     tie.close (tie.spec Inv-loop μ-loop (λ c κs. search needs)
+    -- loop-holds
     (λ c.
     let s = c .before .before .before .before .before .before in
     let a = s .args in
     writing-start (a .marks .now) (a .i) (a .n) (a .x) (a .y) (a .flip) (a .r) (s .pre .1 .0) (c .before .before .clear-row .ensures))
     (λ c κs. search needs) (λ c. search needs) (λ c. search needs) (λ c κs. search needs) (λ c. search needs)
     (λ c. search needs)
+    -- loop-again
     (λ c.
     let s = c .before .before .before .before .before .before .before .before .before .before in
     let a = s .args in
@@ -39,6 +41,8 @@ write-row-spec =
     rw m (writing-skip (a .marks .now) (a .i) (a .n) (a .x) (a .y) (a .flip) g l (e ∙ w .0 .left)))
     (c .if1 .came))
     (λ c. search needs)
+    -- returns
     (λ c.
     let a = c .before .before .before .before .before .before .before .before .args in
-    writing-done (a .marks .now) (a .i) (a .n) (a .x) (a .y) (a .flip) (c .before .before .before .before .clear-row .ensures) (c .before .loop .inv) (c .loop-test .left)))
+    writing-done (a .marks .now) (a .i) (a .n) (a .x) (a .y) (a .flip)
+    (c .before .before .before .before .clear-row .ensures) (c .before .loop .inv) (c .loop-test .left)))

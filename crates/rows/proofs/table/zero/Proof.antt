@@ -9,4 +9,5 @@ pub zero-spec : {M : Type 1} → statement M
 zero-spec =
     tie.close (tie.spec
     (λ c. search needs) (λ c. search needs) (λ c. search needs)
+    -- returns
     (λ c. zero-law _ _ (omega arith)))

@@ -7,5 +7,7 @@ use Rattle.walk.proofs.events.move_up.Tie as tie
 pub move-up-spec : {M : Type 1} → statement M
 move-up-spec =
     tie.close (tie.spec
+    -- mul-result
     (λ c. let h = top-clear (c .args .x) (omega arith) (c .pre) in omega arith)
+    -- returns
     (λ c. up-law _))

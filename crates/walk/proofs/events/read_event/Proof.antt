@@ -12,17 +12,22 @@ pub read-event-spec : {M : Type 1} → statement M
 read-event-spec =
     tie.close (tie.spec
     (λ c. search needs) (λ c. search needs) (λ c. search needs) (λ c. search needs)
+    -- move-up-requires
     (λ c κs.
     let s = c .before .before .before .before .before in
     let a = s .args in
-    even-top (a .letters .now) (a .set .now) (a .j) (a .e) (s .pre .1) 0 (2 * a .e) (omega arith) (omega arith) (getD (a .set .now) 0 0) _ refl)
+    even-top (a .letters .now) (a .set .now) (a .j) (a .e) (s .pre .1) 0 (2 * a .e) (omega arith) (omega arith)
+    (getD (a .set .now) 0 0) _ refl)
     (λ c. search needs) (λ c. search needs) (λ c. search needs) (λ c. search needs) (λ c. search needs)
+    -- move-up-requires-2
     (λ c κs.
     let s = c .before .before .before .before .before .before .before .before in
     let a = s .args in
-    even-top (a .letters .now) (a .set .now) (a .j) (a .e) (s .pre .1) 1 (2 * a .e + 1) (omega arith) refl (getD (a .set .now) 1 0) _ refl)
+    even-top (a .letters .now) (a .set .now) (a .j) (a .e) (s .pre .1) 1 (2 * a .e + 1) (omega arith) refl
+    (getD (a .set .now) 1 0) _ refl)
     (λ c. search needs) (λ c. search needs) (λ c κs. search needs) (λ c. search needs) (λ c. search needs)
     (λ c κs. search needs) (λ c. search needs)
+    -- returns
     (λ c.
     let m = c .before .before in
     let n = m .before .before .before .before in

@@ -19,20 +19,29 @@ abbrev μ-loop : tie.MeasureT-loop
 pub add-due-spec : {M : Type 1} → statement M
 add-due-spec =
     tie.close (tie.spec Inv-loop μ-loop
+    -- loop-holds
     (λ c. (search needs, dues-start _ _ _ _))
     (λ c. search needs) (λ c κs. search needs) (λ c. search needs)
+    -- returns
     (λ c. let i = c .before .before .before .loop .inv in dues-done _ _ _ (i .1) (c .before .first-missing .ensures) (c .if1 .taken))
     (λ c. search needs) (λ c κs. search needs) (λ c. search needs) (λ c. search needs) (λ c. search needs)
+    -- put-if-requires
     (λ c κs.
-    let f = c .before .before .before .before .before .first-missing in
+    let m = c .before .before .before .before .before in
+    let f = m .first-missing in
     let w = f .ensures .within in
     let l : f .result < 128 = omega arith in
-    let e = c .before .before .before .before .before .before .before .before .before .before .before .pre .1 (f .result) l (f .ensures .there l) in
+    let e = m .before .before .before .before .before .before .pre .1 (f .result) l (f .ensures .there l) in
     omega arith)
-    (λ c. let p = c .before .before .before .before .before in missing-less (p .before .before .before .first-missing .ensures) (p .before .before .if1 .left) (p .put .ensures .1))
+    -- loop-less
+    (λ c.
+    let p = c .before .before .before .before .before in
+    missing-less (p .before .before .before .first-missing .ensures) (p .before .before .if1 .left) (p .put .ensures .1))
+    -- loop-again
     (λ c.
     let u = c .before .before in
     let p = u .before .before .before in
     let m = p .before .before .before in
     let i = m .before .before .loop .inv in
-    (u .put-if .ensures .long ∙ i .0, dues-turn _ _ _ (i .1) (m .first-missing .ensures) (p .before .before .if1 .left) (p .put .ensures .1) (u .put-if .ensures))))
+    let g = dues-turn _ _ _ (i .1) (m .first-missing .ensures) (p .before .before .if1 .left) (p .put .ensures .1) (u .put-if .ensures) in
+    (u .put-if .ensures .long ∙ i .0, g)))

@@ -13,8 +13,10 @@ add-row-spec =
     (λ c. search needs) (λ c. search needs) (λ c. search needs) (λ c κs. search needs) (λ c. search needs)
     (λ c. search needs) (λ c. search needs) (λ c. search needs) (λ c. search needs) (λ c. search needs)
     (λ c κs. search needs) (λ c. search needs)
+    -- returns
     (λ c.
     let m = c .before .before in
     let n = m .before .before .before .before .before in
     let o = n .before .before .before .before .before in
-    row-law _ _ _ (o .before .before .before .before .before .merge .ensures .1) (o .merge2 .ensures .1) (n .merge3 .ensures .1) (m .merge4 .ensures .1)))
+    let p = o .before .before .before .before .before in
+    row-law _ _ _ (p .merge .ensures .1) (o .merge2 .ensures .1) (n .merge3 .ensures .1) (m .merge4 .ensures .1)))

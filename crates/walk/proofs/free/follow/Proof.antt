@@ -8,4 +8,5 @@ pub follow-spec : {M : Type 1} → statement M
 follow-spec =
     tie.close (tie.spec
     (λ c κs. search needs) (λ c κs. search needs) (λ c. search needs)
+    -- returns
     (λ c. let f = c .before .before in follow-both (f .before .before .before .before .follow-word .ensures) (f .follow-word2 .ensures)))

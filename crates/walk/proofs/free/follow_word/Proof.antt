@@ -18,8 +18,10 @@ abbrev μ-loop : tie.MeasureT-loop
 pub follow-word-spec : {M : Type 1} → statement M
 follow-word-spec =
     tie.close (tie.spec Inv-loop μ-loop (λ c. search needs) (λ c. search needs) (λ c. search needs) (λ c. search needs)
+    -- loop-holds
     (λ c. (refl, search needs, following-start _ _ _ _))
     (λ c κs. search needs) (λ c. search needs)
+    -- returns
     (λ c.
     let d = c .before in
     let i = d .before .loop .inv in
@@ -27,13 +29,16 @@ follow-word-spec =
     (λ c κs. search needs) (λ c. search needs) (λ c. search needs) (λ c. search needs) (λ c. search needs)
     (λ c. search needs) (λ c κs. search needs) (λ c. search needs) (λ c. search needs) (λ c. search needs)
     (λ c. search needs) (λ c κs. search needs)
+    -- loop-less
     (λ c.
     let o = c .before .before .before .before .before .before .before .before .before .before in
     let f = o .before .before in
     let s = f .before .before .before .before .before .before .before in
     let i = f .before .loop .inv in
+    let e = o .before .if1 .left in
     rw (o .one .ensures)
-    (following-less (s .args .w) _ (f .before .loop .d) (f .first .result) (i .2) (omega arith) (s .pre .1) (i .0) (f .first .ensures) (o .before .if1 .left)))
+    (following-less (s .args .w) _ (f .before .loop .d) (f .first .result) (i .2) (omega arith) (s .pre .1) (i .0) (f .first .ensures) e))
+    -- loop-again
     (λ c.
     let m = c .before .before in
     let n = m .before .before .before .before .before in
@@ -41,6 +46,8 @@ follow-word-spec =
     let f = o .before .before in
     let s = f .before .before .before .before .before .before .before in
     let i = f .before .loop .inv in
-    let g = following-turn (s .args .w) _ (f .before .loop .d) (f .first .result) (i .2) (omega arith) (s .pre .1) (i .0) (f .first .ensures) (o .before .if1 .left)
+    let e = o .before .if1 .left in
+    let g =
+    following-turn (s .args .w) _ (f .before .loop .d) (f .first .result) (i .2) (omega arith) (s .pre .1) (i .0) (f .first .ensures) e
     (n .merge .ensures .1) (m .merge2 .ensures .1) in
     (i .0, g .long ∙ s .pre .0 .2, rw (o .one .ensures) g)))

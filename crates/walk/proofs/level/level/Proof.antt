@@ -11,18 +11,23 @@ pub level-spec : {M : Type 1} → statement M
 level-spec =
     tie.close (tie.spec
     (λ c κs. search needs) (λ c. search needs)
+    -- add-due-requires
     (λ c κs.
-    let p = c .before .before .before .before .before .before .before .before .before .before .before .before .before .before .pre in
+    let n = c .before .before .before in
+    let p = n .before .before .before .before .before .before .before .before .before .before .before .pre in
     let w = p .0 .word in
-    let n = p .1 .1 .0 in
+    let l = p .1 .1 .0 in
     (omega arith, λ s l d. p .0 .special s l (p .1 .1 .1 .1 s l d)))
     (λ c. search needs)
+    -- saturate-requires
     (λ c κs.
-    let p = c .before .before .before .before .before .before .before .before .before .before .before .before .before .before .before .before .before .before .pre in
+    let u = c .before .before .before in
+    let n = u .before .before .before .before in
+    let p = n .before .before .before .before .before .before .before .before .before .before .before .pre in
     let r = p .0 in
     let w = r .word in
-    let n = p .1 .1 .0 in
-    let k = c .before .before .before .add-due .ensures .long in (
+    let l = p .1 .1 .0 in
+    let k = u .add-due .ensures .long in (
       (r .closed, r .specials, r .rows),
       (
         (omega arith, p .1 .0 .1, omega arith),
@@ -39,14 +44,23 @@ level-spec =
       ),
     ))
     (λ c. search needs)
+    -- mark-requires
     (λ c κs.
-    let p = c .before .before .before .before .before .before .before .before .before .before .before .before .before .before .before .before .before .before .before .before .before .before .before .before .pre in
+    let t = c .before .before .before .before .before in
+    let n = t .before .before .before .before .before .before .before .before in
+    let p = n .before .before .before .before .before .before .before .before .before .before .before .pre in
     let w = p .0 .word in
     let q = p .1 in
     omega arith)
     (λ c. search needs) (λ c κs. search needs)
-    (λ c. let n = c .before .before .before .before .before .before .before .before .before .before .before .before .before .before .before .before .before .before .before .before .before .before .before .before .before .before .before .before .before .pre .1 .1 .0 .1 in omega arith)
+    -- sub-if1
+    (λ c.
+    let d = c .before .before .before .before in
+    let n = d .before .before .before .before .before .before .before .before .before .before .before .before .before .before in
+    let l = n .before .before .before .before .before .before .before .before .before .before .before .pre .1 .1 .0 in
+    omega arith)
     (λ c. search needs) (λ c. search needs) (λ c. search needs)
+    -- returns
     (λ c.
     let d = c .before .before .before .before .before in
     let t = d .before .before .before .before .before .before in
@@ -59,24 +73,44 @@ level-spec =
     let l = p .1 .1 .0 in
     level-spent z (p .0) (a .j) (l .0) _ _ _ (p .1 .1 .1 .0) (p .1 .1 .1 .1)
     (n .states-at .ensures) (u .add-due .ensures) (t .saturate .ensures) (d .mark .ensures)
-    (a .count) (a .limit) (c .before .size .result) (c .before .size .ensures .0) (let i = c .if1 .taken in omega arith) (l .1))
+    (a .count) (a .limit) (c .before .size .result) (c .before .size .ensures .0) (omega arith) (l .1))
     (λ c. search needs)
-    (λ c κs. let r = c .before .before .before .before .before .before .before .before .before .before .before .before .before .before .before .before .before .before .before .before .before .before .before .before .before .before .before .before .before .before .before .pre .0 .specials in omega arith)
-    (λ c. search needs)
-    (λ c κs. let q = c .before .before .before .before .before .before .before .before .before .before .before .before .before .before .before .before .before .before .before .before .before .before .before .before .before .before .before .before .before .before .before .before .before .before .pre .1 .0 in omega arith)
-    (λ c. search needs)
+    -- intersect-requires
     (λ c κs.
-    let p = c .before .before .before .before .before .before .before .before .before .before .before .before .before .before .before .before .before .before .before .before .before .before .before .before .before .before .before .before .before .before .before .before .before .before .before .before .before .before .before .pre in
-    let k = c .before .before .before .before .before .before .before .before .before .before .before .before .before .before .mark .ensures .long in
+    let d = c .before .before .before .before .before .before in
+    let n = d .before .before .before .before .before .before .before .before .before .before .before .before .before .before in
+    let r = n .before .before .before .before .before .before .before .before .before .before .before .pre .0 .specials in
+    omega arith)
+    (λ c. search needs)
+    -- unite-requires
+    (λ c κs.
+    let d = c .before .before .before .before .before .before .before .before .before in
+    let n = d .before .before .before .before .before .before .before .before .before .before .before .before .before .before in
+    let q = n .before .before .before .before .before .before .before .before .before .before .before .pre .1 .0 in
+    omega arith)
+    (λ c. search needs)
+    -- read-next-requires
+    (λ c κs.
+    let k =
+    c .before .before .before .before .before .before .before
+    .before .before .before .before .before .before .before .mark .ensures .long in
+    let p =
+    c .before .before .before .before .before .before .before .before .before .before .before .before .before
+    .before .before .before .before .before .before .before .before .before .before .before .before .before
+    .before .before .before .before .before .before .before .before .before .before .before .before .before .pre in
     ((p .0 .letters, k ∙ p .1 .0 .0, search needs), ((p .1 .1 .0 .0, p .0 .word), p .0 .letter)))
+    -- add-t37
     (λ c.
     let i = c .before .before .before .before .before .before .before .before .before .before .before .before in
-    let n = i .before .before .before .before .before .before .before .before .before .before .before .before .before .before .before .before .before .before .before .before .before .before .before .before .before .before .before .before .before .before in
-    let l = n .pre .1 .1 .0 in
+    let d = i .before .before .before .before .before in
+    let n = d .before .before .before .before .before .before .before .before .before .before .before .before .before .before in
+    let s = n .before .before .before .before .before .before .before .before .before .before .before in
+    let l = s .pre .1 .1 .0 in
     let e = i .if1 .left in
-    let f = n .fits in
+    let f = s .fits in
     omega arith)
     (λ c. search needs) (λ c. search needs) (λ c. search needs)
+    -- returns-2
     (λ c.
     let o = c .before .before .before .before .before .before .before in
     let k = o .before .before .before .before .before .before in
@@ -92,4 +126,5 @@ level-spec =
     let i = o .before .before .before .before .before .if1 .left in
     level-done z (p .0) (a .j) (l .0) _ _ _ (p .1 .1 .1 .0) (p .1 .1 .1 .1)
     (n .states-at .ensures) (u .add-due .ensures) (t .saturate .ensures) (d .mark .ensures) (c .before .before .read-next .ensures)
-    (a .count) (a .limit) (k .size .result) (o .before .before .before .intersect .ensures) (o .unite .ensures) (k .size .ensures .0) (omega arith)))
+    (a .count) (a .limit) (k .size .result) (o .before .before .before .intersect .ensures) (o .unite .ensures)
+    (k .size .ensures .0) (omega arith)))

@@ -1,6 +1,6 @@
 -- `saturate` enters the special nodes that it comes to, one after another. Assumes nothing.
 use mathlib.Core.Path.{refl}
-use Prim.Native.Nat.{_-_, _/_, _<_}
+use Prim.Native.Nat.{_-_, _/_}
 use borrow.Author.Needs.{needs}
 use native.Mathlib.Omega.{arith}
 use Rattle.bits.specs.Bit.{bitAt, tallyBelow}
@@ -19,60 +19,73 @@ abbrev μ-loop : tie.MeasureT-loop
 pub saturate-spec : {M : Type 1} → statement M
 saturate-spec =
     tie.close (tie.spec Inv-loop μ-loop
-    (λ c. let p = c .before .before .before .before .before .before .pre .1 .0 in saturating-start _ _ _ _ _ _ _ (p .0) (p .1))
+    -- loop-holds
+    (λ c.
+    let p = c .before .before .before .before .before .before .pre .1 in
+    let q = p .1 .1 in
+    let n = p .0 in
+    saturating-start _ _ _ _ _ _ _ record { transitive = q .0; even = q .1 .0; room = q .1 .1; small = n .2 } (n .0) (n .1))
     (λ c. search needs) (λ c κs. search needs) (λ c. search needs) (λ c κs. search needs) (λ c. search needs)
     (λ c. search needs) (λ c κs. search needs) (λ c. search needs) (λ c. search needs)
+    -- returns
     (λ c.
-    let m = c .before .first-missing .ensures in
     let n = c .before .before .before .before in
     let f = n .before .before .before in
-    let p = f .before .before .before .before .before .before .before .before .before .before .pre .1 .1 .1 in
-    let g = saturating-follow _ _ _ _ _ _ _ (p .0) (f .before .before .before .loop .inv) (f .follow .ensures) in
-    saturating-done _ _ _ _ _ _ _ (p .1 .0) g (n .intersect .ensures) m (f .follow .ensures .all) (c .if1 .taken))
+    let g = saturating-follow _ _ _ _ _ _ _ (f .before .before .before .loop .inv) (f .follow .ensures) in
+    saturating-done _ _ _ _ _ _ _ g (n .intersect .ensures) (c .before .first-missing .ensures) (f .follow .ensures .all) (c .if1 .taken))
     (λ c. search needs) (λ c κs. search needs) (λ c. search needs) (λ c. search needs)
+    -- add-r
     (λ c.
-    let m = c .before .before .before .before .before .first-missing in
-    let i = c .before .before .before .before .before .before .before .before .before .before .before .before .before .before .before .before .before .before .before .before .before .pre .1 .1 .1 .1 .1 in
-    let few = i .few (m .result / 2) in
+    let m = c .before .before .before .before .before in
+    let i = m .before .before .before .before .before .before .before .before .before .loop .inv in
+    let few = i .ground .room .few (m .first-missing .result / 2) in
     omega arith)
+    -- add-row-requires
     (λ c κs.
-    let m = c .before .before .before .before .before .before .first-missing in
-    let w = m .ensures .within in
-    let i = c .before .before .before .before .before .before .before .before .before .before .before .before .before .before .before .before .before .before .before .before .before .before .pre .1 .1 .1 .1 .1 in
-    let few = i .few (m .result / 2) in
-    let room = i .within (m .result / 2) in
+    let m = c .before .before .before .before .before .before in
+    let i = m .before .before .before .before .before .before .before .before .before .loop .inv in
+    let w = m .first-missing .ensures .within in
+    let few = i .ground .room .few (m .first-missing .result / 2) in
+    let room = i .ground .room .within (m .first-missing .result / 2) in
     omega arith)
+    -- mul-put-if
     (λ c.
-    let m = c .before .before .before .before .before .before .before .before .before .first-missing in
-    let i = c .before .before .before .before .before .before .before .before .before .before .before .before .before .before .before .before .before .before .before .before .before .before .before .before .before .pre .1 .1 .1 .1 .1 in
-    let few = i .few (m .result / 2) in
+    let m = c .before .before .before .before .before .before .before .before .before in
+    let i = m .before .before .before .before .before .before .before .before .before .loop .inv in
+    let few = i .ground .room .few (m .first-missing .result / 2) in
     omega arith)
+    -- add-put-if
     (λ c.
-    let m = c .before .before .before .before .before .before .before .before .before .first-missing in
-    let i = c .before .before .before .before .before .before .before .before .before .before .before .before .before .before .before .before .before .before .before .before .before .before .before .before .before .pre .1 .1 .1 .1 .1 in
-    let few = i .few (m .result / 2) in
+    let m = c .before .before .before .before .before .before .before .before .before in
+    let i = m .before .before .before .before .before .before .before .before .before .loop .inv in
+    let few = i .ground .room .few (m .first-missing .result / 2) in
     omega arith)
     (λ c. search needs)
+    -- put-if-requires
     (λ c κs.
     let m = c .before .before .before .before .before .before .before .before .before .before in
     let n = m .before .before .before in
     let f = n .before .before .before in
-    let p = f .before .before .before .before .before .before .before .before .before .before .pre .1 .1 .1 in
-    let few = p .1 .1 .few (m .first-missing .result / 2) in
-    let room = p .1 .1 .within (m .first-missing .result / 2) in
-    let g = saturating-follow _ _ _ _ _ _ _ (p .0) (f .before .before .before .loop .inv) (f .follow .ensures) in
-    let e = entry-small _ _ _ _ _ _ _ (p .1 .0) g (n .intersect .ensures) (m .first-missing .ensures) (c .before .before .before .before .before .before .before .before .before .if1 .left) in
-    let l = f .before .before .before .loop .inv .lengths in
-    let small = f .before .before .before .before .before .before .before .before .before .before .pre .1 .0 .2 in
+    let i = f .before .before .before .loop .inv in
+    let few = i .ground .room .few (m .first-missing .result / 2) in
+    let room = i .ground .room .within (m .first-missing .result / 2) in
+    let g = saturating-follow _ _ _ _ _ _ _ i (f .follow .ensures) in
+    let k = c .before .before .before .before .before .before .before .before .before .if1 .left in
+    let e = entry-small _ _ _ _ _ _ _ g (n .intersect .ensures) (m .first-missing .ensures) k in
+    let l = i .lengths in
+    let small = i .ground .small in
     omega arith)
-    (λ c. let p = c .before .before .before .before .before .before .before .before .before .before in missing-less (p .before .before .before .first-missing .ensures) (p .before .before .if1 .left) (p .put .ensures .1))
+    -- loop-less
+    (λ c.
+    let p = c .before .before .before .before .before .before .before .before .before .before in
+    missing-less (p .before .before .before .first-missing .ensures) (p .before .before .if1 .left) (p .put .ensures .1))
+    -- loop-again
     (λ c.
     let a = c .before .before .before .before .before .before in
     let t = a .before .before .before .before in
     let m = t .before .before .before in
     let n = m .before .before .before in
     let f = n .before .before .before in
-    let p = f .before .before .before .before .before .before .before .before .before .before .pre .1 .1 .1 in
-    let g = saturating-follow _ _ _ _ _ _ _ (p .0) (f .before .before .before .loop .inv) (f .follow .ensures) in
-    saturating-turn _ _ _ _ _ _ _ (p .1 .0) g (n .intersect .ensures) (m .first-missing .ensures) (t .before .before .if1 .left) (t .put .ensures .1)
+    let g = saturating-follow _ _ _ _ _ _ _ (f .before .before .before .loop .inv) (f .follow .ensures) in
+    saturating-turn _ _ _ _ _ _ _ g (n .intersect .ensures) (m .first-missing .ensures) (t .before .before .if1 .left) (t .put .ensures .1)
     _ refl (a .add-row .ensures) (c .before .before .put-if .ensures)))

@@ -10,4 +10,5 @@ at-rest-spec =
     tie.close (tie.spec
     (λ c. search needs) (λ c. search needs) (λ c. search needs) (λ c. search needs) (λ c. search needs)
     (λ c. search needs) (λ c. search needs) (λ c. search needs) (λ c. search needs)
+    -- returns
     (λ c. λ e. rest-law _ _ _ (eqb-true _ _ e)))

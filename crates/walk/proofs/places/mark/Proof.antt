@@ -9,4 +9,7 @@ mark-spec =
     tie.close (tie.spec
     (λ c. search needs) (λ c. search needs) (λ c κs. search needs) (λ c. search needs) (λ c. search needs)
     (λ c. search needs) (λ c κs. search needs) (λ c. search needs)
-    (λ c. let m = c .before .before in place-law _ _ (m .before .before .before .before .before .merge .ensures .1) (m .merge2 .ensures .1)))
+    -- returns
+    (λ c.
+    let m = c .before .before in
+    place-law _ _ (m .before .before .before .before .before .merge .ensures .1) (m .merge2 .ensures .1)))

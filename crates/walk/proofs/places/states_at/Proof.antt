@@ -10,4 +10,5 @@ states-at-spec =
     tie.close (tie.spec
     (λ c. search needs) (λ c. search needs) (λ c. search needs) (λ c. search needs) (λ c. search needs)
     (λ c. search needs) (λ c. search needs) (λ c. search needs) (λ c. search needs)
+    -- returns
     (λ c. states-law _ _ _ refl refl))

@@ -10,4 +10,5 @@ intersect-spec =
     tie.close (tie.spec
     (λ c. search needs) (λ c. search needs) (λ c. search needs) (λ c. search needs) (λ c. search needs)
     (λ c. search needs)
+    -- returns
     (λ c. common-law _ _ _ refl refl))

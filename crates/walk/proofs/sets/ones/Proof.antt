@@ -8,5 +8,7 @@ use Rattle.walk.proofs.sets.ones.Tie as tie
 pub ones-spec : {M : Type 1} → statement M
 ones-spec =
     tie.close (tie.spec
+    -- cast-result
     (λ c. let h = ones-le 64 (c .args .x) (omega arith) in omega arith)
+    -- returns
     (λ c. (ones-tally (c .args .x) (omega arith), ones-le 64 (c .args .x) (omega arith))))

@@ -11,7 +11,9 @@ pub put-if-spec : {M : Type 1} → statement M
 put-if-spec =
     tie.close (tie.spec
     (λ c κs. search needs) (λ c κs. search needs) (λ c. search needs)
+    -- returns
     (λ c.
     let t = c .before .before .before .before in
     put-if-put _ _ (sym (t .before .test .ensures) ∙ t .if1 .taken) (c .before .before .put .ensures .1))
+    -- returns-2
     (λ c. adds-none _ _ (λ t i. false≢true (sym (c .if1 .left) ∙ c .before .test .ensures ∙ i .1))))

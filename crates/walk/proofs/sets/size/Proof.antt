@@ -9,6 +9,7 @@ pub size-spec : {M : Type 1} → statement M
 size-spec =
     tie.close (tie.spec
     (λ c. search needs) (λ c κs. search needs) (λ c. search needs) (λ c κs. search needs) (λ c. search needs)
+    -- returns
     (λ c.
     let d = c .before .before in
     let e = size-law (d .before .before .before .args .set .now) in

@@ -8,4 +8,7 @@ pub unite-spec : {M : Type 1} → statement M
 unite-spec =
     tie.close (tie.spec
     (λ c. search needs) (λ c κs. search needs) (λ c. search needs) (λ c κs. search needs) (λ c. search needs)
-    (λ c. let m = c .before .before in state-law _ (m .before .before .before .before .before .merge .ensures .1) (m .merge2 .ensures .1)))
+    -- returns
+    (λ c.
+    let m = c .before .before in
+    state-law _ (m .before .before .before .before .before .merge .ensures .1) (m .merge2 .ensures .1)))
