@@ -54,7 +54,7 @@ held-table : {s : List ℕ} {w : Word} {t : Tree} {old b : List ℕ} → Passed 
     → HoldsTable w t b → KeepsBeyond (needOf (specials t) (length w)) old b → b ≡ table w t ++ drop (needOf (specials t) (length w)) old
 held-table {w = w} {t = t} {b = b} p short room h k =
     split (table w t) k (table-length w t) room (λ i l.
-    table-numbers w b short t
+    table-numbers w b short t t
     (λ n z. subst (λ (u : List Tree). HoldsBlock w (getD (t ∷ u) n t) b (n * blockLength (length w))) (held-parts p h) (h .blocks n z)) i l
     (h .numbers i l))
 

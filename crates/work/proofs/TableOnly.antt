@@ -72,16 +72,16 @@ module _ (w : Word) (run : List ℕ) (short : length w ≤ 255) where
       ∙ sym (blocks-at w l d b q f g) ∙ ap (λ i. getD (blocks w l) i 0) s
 
   -- the needed numbers of a run that holds the blocks of t
-  pub table-numbers : (t : Tree)
-      → ((b : ℕ) → b ≤ specials t → HoldsBlock w (getD (t ∷ specialParts t) b t) run (b * blockLength (length w)))
+  pub table-numbers : (t d : Tree)
+      → ((b : ℕ) → b ≤ specials t → HoldsBlock w (getD (t ∷ specialParts t) b d) run (b * blockLength (length w)))
       → (k : ℕ) → k < needOf (specials t) (length w) → getD run k 0 < 2 ^ 64 → getD run k 0 ≡ getD (table w t) k 0
   unfolding table
-  table-numbers t h k z small =
+  table-numbers t d h k z small =
       let e = parts-length t in
       let n : length (t ∷ specialParts t) * blockLength (length w) ≡ needOf (specials t) (length w) = omega
       (arith, ap (λ n. suc n * blockLength (length w)) (parts-length t)) in
-      held-blocks (t ∷ specialParts t) t (λ b l. h b (omega arith)) k (omega arith) small
+      held-blocks (t ∷ specialParts t) d (λ b l. h b (omega arith)) k (omega arith) small
 
-  pub table-only : (t : Tree) → Small run → length run ≡ needOf (specials t) (length w)
-      → ((b : ℕ) → b ≤ specials t → HoldsBlock w (getD (t ∷ specialParts t) b t) run (b * blockLength (length w))) → run ≡ table w t
-  table-only t small e h = ext-getD 0 run (table w t) (e ∙ sym (table-length w t)) (λ k z. table-numbers t h k (omega arith) (small k))
+  pub table-only : (t d : Tree) → Small run → length run ≡ needOf (specials t) (length w)
+      → ((b : ℕ) → b ≤ specials t → HoldsBlock w (getD (t ∷ specialParts t) b d) run (b * blockLength (length w))) → run ≡ table w t
+  table-only t d small e h = ext-getD 0 run (table w t) (e ∙ sym (table-length w t)) (λ k z. table-numbers t d h k (omega arith) (small k))
