@@ -31,31 +31,32 @@ judge-spans-spec =
       room = length-take-le _ _ (p .1 .1 .1) ∙ p .1 .1 .0;
     })
     (λ c. search needs)
+    -- spent
     (λ c.
-    let s = c .before .before .before .before .before .before .before in
+    let t = c .before .before .before in
+    let s = t .before .before .before .before in
     let a = s .args in
-    let f = c .before .before .before .fill in
-    let b = f .last .1 .1 .1 .1 .0 in
-    let e : f .result .spent ≡ true = c .if1 .taken in
-    limit-over (treeFrom (a .nodes) (a .m)) (a .word .now) (a .limit) (a .need) b (a .table .now) (f .result .count) (s .pre .1 .1 .0)
-    (subst (FilledTable _ _ _ _ _) e (f .ensures)))
+    let b = t .fill .last .1 .1 .1 .1 .0 in
+    let e : t .fill .result .spent ≡ true = c .if1 .taken in
+    limit-over (treeFrom (a .nodes) (a .m)) (a .word .now) (a .limit) (a .need) b (a .table .now) (t .fill .result .count)
+    (s .pre .1 .1 .0) (subst (FilledTable _ _ _ _ _) e (t .fill .ensures)))
     (λ c. search needs)
     (λ c. search needs)
     (λ c κs.
-    let s = c .before .before .before .before .before .before .before .before in
-    let p = s .pre in
-    let n : ℕ = length (s .args .word .now) in
-    let k = block-needed (specials (treeFrom (s .args .nodes) (s .args .m))) n in
-    let l = c .before .before .before .before .fill .kept .1 .1 .1 .1 .0 in
-    let u = length-take-le (s .args .need) (s .args .table .now) (p .1 .1 .1) in
+    let t = c .before .before .before .before in
+    let s = t .before .before .before .before in
+    let k = block-needed (specials (treeFrom (s .args .nodes) (s .args .m))) (length (s .args .word .now)) in
+    let l = t .fill .kept .1 .1 .1 .1 .0 in
+    let u = length-take-le (s .args .need) (s .args .table .now) (s .pre .1 .1 .1) in
     (simp length-append (omega arith), omega arith))
     (λ c. search needs)
+    -- not spent
     (λ c.
-    let s = c .before .before .before .before .before .before .before .before .before in
+    let t = c .before .before .before .before .before in
+    let s = t .before .before .before .before in
     let a = s .args in
-    let f = c .before .before .before .before .before .fill in
-    let b = f .last .1 .1 .1 .1 .0 in
-    let e : f .result .spent ≡ false = c .before .before .if1 .left in
-    ap (λ (n : ℕ). values 0 0 n (f .result .count) (b ++ drop (a .need) (a .table .now))) (c .count .ensures)
-    ∙ limit-kept (treeFrom (a .nodes) (a .m)) (a .word .now) (a .limit) (a .need) b (a .table .now) (f .result .count) (s .pre .1 .1 .0)
-    (subst (FilledTable _ _ _ _ _) e (f .ensures))))
+    let b = t .fill .last .1 .1 .1 .1 .0 in
+    let e : t .fill .result .spent ≡ false = c .before .before .if1 .left in
+    ap (λ (n : ℕ). values 0 0 n (t .fill .result .count) (b ++ drop (a .need) (a .table .now))) (c .count .ensures)
+    ∙ limit-kept (treeFrom (a .nodes) (a .m)) (a .word .now) (a .limit) (a .need) b (a .table .now) (t .fill .result .count)
+    (s .pre .1 .1 .0) (subst (FilledTable _ _ _ _ _) e (t .fill .ensures))))

@@ -45,7 +45,7 @@ judge-word-spec =
       record { recorded = s .pre .recorded; special = refl; few = omega (arith, s .pre .few, s .pre .special); rising = s .pre .rising },
       ((omega arith, all-events w (none-foreign w (omega arith))), (omega arith, omega arith)),
     ))
-    (λ c. search needs)
+    (λ c. search needs)  -- the table keeps its length
     (λ c.
     let s = c .before .before .before .before .before .before .before .before .before .before in
     let a = s .args in
