@@ -2,8 +2,8 @@
 use mathlib.Core.Path.{_≡_, refl, sym, ap, _∙_}
 use mathlib.Core.Bool.{Bool, true, false, _||_}
 use mathlib.Core.Logic.{_⊎_, inl, inr, ⊎-elim}
-use Prim.Native.Nat.{ℕ, zero, suc, _+_, _-_, _*_, _/_, _%_, _^_, min, max, _≤_, _<_}
-use native.Mathlib.Nat.{max-zero, zero-max, div-self, div-eq-of-lt, mul-mod-left, pow-suc, zero-div, zero-mod, eq-zero-or-pos}
+use Prim.Native.Nat.{ℕ, zero, suc, _+_, _-_, _/_, _%_, _^_, min, max, _≤_, _<_}
+use native.Mathlib.Nat.{zero-max, div-self, div-eq-of-lt, mul-mod-left, pow-suc, zero-div, zero-mod, eq-zero-or-pos}
 use native.Mathlib.Omega.{arith}
 use native.Mathlib.Numerals.{add-one, one-add}
 use lib.Arith.{digits-mod}

@@ -1,7 +1,7 @@
 // Bits of 64-bit numbers, and of runs of them: bit p of a run is bit p % 64 of its number p / 64.
 ghost use mathlib.Core.Path.{_≡_};
 ghost use mathlib.Core.List.{_++_};
-ghost use Prim.Native.Nat.{ℕ, _*_, _/_, _%_, _^_, _<_, _≤_};
+ghost use Prim.Native.Nat.{_*_, _/_, _%_, _^_, _<_, _≤_};
 ghost use lib.ListN.{length, take, drop, replicate};
 ghost use Rattle.bits.specs.Bit.{hasBit, bitAt, onesOf, joined, Put, First, Merged};
 

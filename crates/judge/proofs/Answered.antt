@@ -2,9 +2,8 @@
 use Prim.Native.Nat.{ℕ, _+_, _-_, _*_, _^_, _≤_, _<_}
 use native.Mathlib.Omega.{arith}
 use native.Mathlib.Nat.{mul-le-mul-right}
-use mathlib.Core.Path.{_≡_, refl, sym, ap, subst, _∙_}
-use mathlib.Core.Bool.{true, false}
-use mathlib.Core.List.{List, _∷_, _++_}
+use mathlib.Core.Path.{_≡_, sym, ap, subst, _∙_}
+use mathlib.Core.List.{List, _++_}
 use lib.Dec.{eqb, ltb}
 use lib.ListN.{length, getD, drop, replicate, length-append, length-drop, length-replicate, getD-replicate, List·getD-append}
 use lib.Seq.{getD-append-add, getD-drop}
@@ -13,10 +12,8 @@ use Rattle.event.specs.Event.{Word, isEvent}
 use Rattle.event.proofs.LeadingLaws.{leading-found}
 use Rattle.event.proofs.Tests.{choose}
 use Rattle.regex.specs.Tree.{Tree, specials}
-use Rattle.regex.specs.TreeOf.{treeOf}
 use Rattle.regex.proofs.OneReading.{tree-is}
-use Rattle.rule.specs.RuleAnswer as reader
-use Rattle.rule.specs.RuleAnswer.{RuleAnswer, ruleAnswer}
+use Rattle.rule.specs.RuleAnswer.{ruleAnswer}
 use Rattle.rule.specs.RuleMeaning.{RuleMeaning}
 use Rattle.rule.proofs.Answered as rule-answered
 use Rattle.work.specs.Count.{fullCount}
@@ -27,7 +24,7 @@ use Rattle.work.proofs.Order.{parts-rising, listed-special, special-listed}
 use Rattle.work.proofs.Sizes.{size-unique}
 use Rattle.work.proofs.TableLaws.{parts-length, table-length, table-holds, table-small, holds-in-front}
 use Rattle.work.proofs.WorkSize.{collection-size}
-use Rattle.judge.specs.JudgeAnswer.{JudgeAnswer, values, refusal, spent, acceptance, foreignAt, limited, judged, judgeAnswer}
+use Rattle.judge.specs.JudgeAnswer.{JudgeAnswer, values, foreignAt, limited, judged, judgeAnswer}
 use Rattle.judge.specs.JudgeMeaning.{Passed, Legal, KeepsBeyond, HoldsTable, JudgeMeaning}
 use Rattle.judge.specs.JudgeMeaning.{rule-refused, long-word, foreign-event, short-table, limit-spent, accepted}
 use Rattle.judge.proofs.Limited.{found-counted}
@@ -59,7 +56,9 @@ holds-table {s} {t} p w short rest = record {
   blocks = λ k h.
       let l = block-room k (specials t) (length w) h in
       holds-in-front rest short (omega (arith, table-length w t)) (table-holds w t k short h);
-  numbers = λ i h. subst (λ (x : ℕ). x < 2 ^ 64) (sym (List·getD-append (table w t) rest 0 i (omega (arith, table-length w t)))) (table-small w t i);
+  numbers = λ i h.
+      let e = List·getD-append (table w t) rest 0 i (omega (arith, table-length w t)) in
+      subst (λ (x : ℕ). x < 2 ^ 64) (sym e) (table-small w t i);
 }
 
 -- ---- the answer
@@ -82,7 +81,8 @@ module _ {s : List ℕ} (w : Word) (limit : ℕ) (old : List ℕ) {t : Tree} (p 
       (keeps-beyond (replicate (needOf (specials t) (length w)) 0) old (length-replicate _ _) room))
       (λ e. subst (λ (n : ℕ). M (values 0 0 n (fullCount w t) (table w t ++ drop (needOf (specials t) (length w)) old)))
       (found-counted w t (drop (needOf (specials t) (length w)) old))
-      (accepted p l room (collection-size w t) (ltb-false _ _ e) (holds-table p w (l .fits) _) (keeps-beyond (table w t) old (table-length w t) room)))
+      (accepted p l room (collection-size w t) (ltb-false _ _ e) (holds-table p w (l .fits) _)
+      (keeps-beyond (table w t) old (table-length w t) room)))
 
   judged-means : M (judged t w limit old)
   judged-means =

@@ -1,31 +1,29 @@
 -- What follows of every answer of the judge: the bound of the count, and what the answer does not depend on. Assumes nothing.
-use Prim.Native.Nat.{ℕ, _+_, _*_, _≤_, _<_}
+use Prim.Native.Nat.{ℕ, _+_, _*_, _≤_}
 use native.Mathlib.Omega.{arith}
 use mathlib.Core.Path.{_≡_, refl, sym, ap, subst, _∙_}
 use mathlib.Core.Bool.{Bool, true, false, cond}
-use mathlib.Core.Logic.{_⊎_, inl, inr, ⊎-elim}
+use mathlib.Core.Logic.{_⊎_, ⊎-elim}
 use mathlib.Core.List.{List, _++_}
 use lib.Dec.{eqb, ltb}
-use lib.ListN.{length, drop, take, replicate, length-replicate}
+use lib.ListN.{length, take, replicate, length-replicate}
 use lib.Seq.{take-at}
 use borrow.Author.Tests.{eqb-false}
 use Rattle.event.specs.Event.{Word}
 use Rattle.regex.specs.Tree.{Tree, size, specials}
 use Rattle.regex.specs.TreeOf.{treeOf}
-use Rattle.rule.specs.RuleAnswer as reader
 use Rattle.rule.specs.RuleAnswer.{RuleAnswer, ruleAnswer}
 use Rattle.rule.specs.RuleMeaning.{RuleMeaning, empty-text, long-text, foreign-byte, no-sentence, many-nodes, many-specials}
 use Rattle.rule.specs.RuleMeaning as meaning
 use Rattle.rule.proofs.Answered as rule-answered
 use Rattle.work.specs.Count.{fullCount}
 use Rattle.work.specs.Walk.{Collection}
-use Rattle.work.specs.SizeOf.{SizeOf}
-use Rattle.work.specs.Table.{needOf, table}
+use Rattle.work.specs.Table.{needOf, table, found}
 use Rattle.work.proofs.Sizes.{size-unique}
 use Rattle.work.proofs.TableLaws.{table-length}
 use Rattle.work.proofs.WorkBound.{full-bound}
 use Rattle.work.proofs.WorkSize.{collection-size}
-use Rattle.judge.specs.JudgeAnswer.{JudgeAnswer, refusal, spent, acceptance, foreignAt, limited, judged, judgeAnswer}
+use Rattle.judge.specs.JudgeAnswer.{JudgeAnswer, values, refusal, spent, acceptance, foreignAt, limited, judged, judgeAnswer}
 use Rattle.judge.specs.JudgeMeaning.{Passed, JudgeMeaning}
 use Rattle.judge.specs.JudgeMeaning.{rule-refused, long-word, foreign-event, short-table, limit-spent, accepted}
 use Rattle.judge.proofs.Answered.{answer-means}
@@ -45,7 +43,9 @@ meant-within (rule-refused r) = omega arith
 meant-within (long-word p h) = omega arith
 meant-within (foreign-event p h l b e) = omega arith
 meant-within (short-table p l h) = omega arith
-meant-within {w = w} (limit-spent {t = t} p l r above z k) = let h = above (fullCount w t) (collection-size w t) in omega (arith, full-within w p)
+meant-within {w = w} (limit-spent {t = t} p l r above z k) =
+    let h = above (fullCount w t) (collection-size w t) in
+    omega (arith, full-within w p)
 meant-within {w = w} (accepted {t = t} {c = c} p l r z h b k) =
     let e = size-unique (Collection w t) c (fullCount w t) z (collection-size w t) in
     omega (arith, full-within w p)
@@ -77,6 +77,9 @@ refusals-agree need n p old old′ f g = record {
   written = λ h. ⊎-elim (λ (e : n ≡ 0). absurd (f e)) (λ (e : n ≡ 10). absurd (g e)) h;
 }
 
+written-alike : {need : ℕ} {a b : List ℕ} (n p f c : ℕ) → take need a ≡ take need b → Agree need (values n p f c a) (values n p f c b)
+written-alike n p f c e = record { number = refl; place = refl; found = refl; count = refl; written = λ _. e }
+
 module _ (t : Tree) (w : Word) (limit : ℕ) (old old′ : List ℕ) where
   abbrev need : ℕ
   need = needOf (specials t) (length w)
@@ -87,14 +90,16 @@ module _ (t : Tree) (w : Word) (limit : ℕ) (old old′ : List ℕ) where
   limited-agree : Agree need (limited t w limit old) (limited t w limit old′)
   limited-agree =
       both (Agree need) (ltb limit (fullCount w t))
-      (record { number = refl; place = refl; found = refl; count = refl; written = λ _. front (replicate need 0) _ _ (length-replicate need 0) })
-      (λ _. record { number = refl; place = refl; found = refl; count = refl; written = λ _. front (table w t) _ _ (table-length w t) })
+      (written-alike 10 0 0 limit (front (replicate need 0) _ _ (length-replicate need 0)))
+      (λ _. written-alike 0 0 (found w t) (fullCount w t) (front (table w t) _ _ (table-length w t)))
 
   judged-agree : length old ≡ length old′ → Agree need (judged t w limit old) (judged t w limit old′)
   judged-agree e =
-      rw (← e) (both (Agree need) (ltb 255 (length w)) (refusals-agree need 7 0 old old′ (λ h. omega arith) (λ h. omega arith))
-      (λ _. both (Agree need) (ltb (foreignAt w) (length w)) (refusals-agree need 8 (foreignAt w) old old′ (λ h. omega arith) (λ h. omega arith))
-      (λ _. both (Agree need) (ltb (length old) need) (refusals-agree need 9 0 old old′ (λ h. omega arith) (λ h. omega arith)) (λ _. limited-agree))))
+      let refused : (n p : ℕ) → (n ≡ 0 → ⊥) → (n ≡ 10 → ⊥) → Agree need (refusal n p old) (refusal n p old′)
+      = λ n p. refusals-agree need n p old old′ in
+      rw (← e) (both (Agree need) (ltb 255 (length w)) (refused 7 0 (λ h. omega arith) (λ h. omega arith))
+      (λ _. both (Agree need) (ltb (foreignAt w) (length w)) (refused 8 (foreignAt w) (λ h. omega arith) (λ h. omega arith))
+      (λ _. both (Agree need) (ltb (length old) need) (refused 9 0 (λ h. omega arith) (λ h. omega arith)) (λ _. limited-agree))))
 
 rule-number : {s : List ℕ} {a : RuleAnswer} → RuleMeaning s a → a .number ≤ 6
 rule-number (empty-text h) = omega arith
@@ -118,7 +123,8 @@ table-unread s w limit old old′ e =
 
 -- ---- the limit
 -- an answer with the number 0 is on the second side of a test whose first side has another number
-second : (t : Bool) (a b : JudgeAnswer) {c : JudgeAnswer} → (a .number ≡ 0 → ⊥) → (b .number ≡ 0 → b ≡ c) → cond t a b .number ≡ 0 → cond t a b ≡ c
+second : (t : Bool) (a b : JudgeAnswer) {c : JudgeAnswer} → (a .number ≡ 0 → ⊥) → (b .number ≡ 0 → b ≡ c)
+    → cond t a b .number ≡ 0 → cond t a b ≡ c
 second true a b n k h = absurd (n h)
 second false a b n k h = k h
 
@@ -128,7 +134,8 @@ module _ (t : Tree) (w : Word) (limit : ℕ) (old : List ℕ) where
       second (ltb 255 (length w)) (refusal 7 0 old) _ (λ e. omega arith)
       (second (ltb (foreignAt w) (length w)) (refusal 8 (foreignAt w) old) _ (λ e. omega arith)
       (second (ltb (length old) (needOf (specials t) (length w))) (refusal 9 0 old) (limited t w limit old) (λ e. omega arith)
-      (second (ltb limit (fullCount w t)) (spent (needOf (specials t) (length w)) limit old) (acceptance t w old) (λ e. omega arith) (λ _. refl))))
+      (second (ltb limit (fullCount w t)) (spent (needOf (specials t) (length w)) limit old) (acceptance t w old) (λ e. omega arith)
+      (λ _. refl))))
 
 accepts-as : (s : List ℕ) (w : Word) (limit : ℕ) (old : List ℕ) → judgeAnswer s w limit old .number ≡ 0
     → judgeAnswer s w limit old ≡ acceptance (treeOf s) w old

@@ -1,7 +1,7 @@
 -- What the judge's answer says of a rule text, a word, a limit and the table at entry, by the grammar, the language and the collection
 -- of reached places: document 01's row "Judge". Assumes nothing.
 -- That `judgeAnswer` is the one answer which says so is `answer-means` and `answer-is` in proofs/Answered.
-use Prim.Native.Nat.{ℕ, _+_, _*_, _^_, _≤_, _<_}
+use Prim.Native.Nat.{ℕ, _*_, _^_, _≤_, _<_}
 use mathlib.Core.Path.{_≡_}
 use mathlib.Core.Logic.{_↔_}
 use mathlib.Core.List.{List, _∷_, List·Memᴰ}
@@ -9,7 +9,7 @@ use mathlib.Core.Bool.{true, false}
 use lib.ListN.{length, getD, take}
 use Rattle.bits.specs.Bit.{onesOf}
 use Rattle.event.specs.Event.{Word, isEvent}
-use Rattle.regex.specs.Tree.{Tree, size, specials}
+use Rattle.regex.specs.Tree.{Tree, specials}
 use Rattle.regex.specs.Grammar.{Alt, Reads}
 use Rattle.rule.specs.RuleAnswer as reader
 use Rattle.rule.specs.RuleMeaning.{RuleMeaning}

@@ -4,7 +4,6 @@ mod word;
 use regex::Node;
 use rule::Outcome as RuleOutcome;
 ghost use mathlib.Core.Path.{_≡_};
-ghost use mathlib.Core.List.{List};
 ghost use Prim.Native.Nat.{_≤_};
 ghost use lib.ListN.{length};
 ghost use Rattle.event.specs.Event.{Events};

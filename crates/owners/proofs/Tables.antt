@@ -34,5 +34,5 @@ module _ (w : Word) (run : List ℕ) (short : length w ≤ 255) where
           let l = parts-length t in
           let (x, p, s) = special-at t b (omega arith) in
           let r = index-row t (length w) up b (omega arith) in
-          has-holds (getD (specialParts t) b (empty 0)) (firstRow t (length w) (getD (specialParts t) b (empty 0))) (suc b * blockLength (length w))
-          (omega arith) (g (getD (specialParts t) b (empty 0)) x p s (omega (arith, part-range p)))
+          let u = getD (specialParts t) b (empty 0) in
+          has-holds u (firstRow t (length w) u) (suc b * blockLength (length w)) (omega arith) (g u x p s (omega (arith, part-range p)))

@@ -181,7 +181,8 @@ module _ {t : Tree} {nodes : List Node} {m : ℕ} {lefts closed letters specials
       let k = whole-walker S d in
       let n = s .counted e₀ in
       record {
-        done = λ e. table-is w b (S .fillable .short) small t (S .fillable .rising) (g .long ∙ S .fillable .room) (filled-block k g e) (λ v y p q j i′ j′ l′ h′.
+        done = λ e. table-is w b (S .fillable .short) small t (S .fillable .rising) (g .long ∙ S .fillable .room) (filled-block k g e)
+            (λ v y p q j i′ j′ l′ h′.
             let a : (256 * (firstRow t (length w) v + i′) + j′) / 256 ≡ firstRow t (length w) v + i′ = omega arith in
             let z = row-past t (length w) (S .fillable .rising) p q in
             let few = g .few in

@@ -49,7 +49,8 @@ abbrev pub visits : (marks : ℕ → List ℕ) (n k : ℕ) → ℕ
 visits marks n k = sumBelow (λ (i : ℕ). tallyBelow (128 * (n + 1)) (bitAt (marks i))) k
 
 -- b is the table with the rows written of the starts below stop, which are all or as many as the limit allows: the marks of each walk are
--- the places reached, and its row says where it ended; c is count and as many more as there are places
+-- the places reached, and its row says where it ended; c is count and as many more as there are places.
+-- The lent numbers are 64-bit ones, so their bits determine them.
 pub record Filled (t : Automaton) (r x y : ℕ) (flip : Bool) (count limit : ℕ) (b : List ℕ) (c : ℕ) (spent : Bool) : Type 0 where
   pub stop : ℕ
   pub marks : ℕ → List ℕ

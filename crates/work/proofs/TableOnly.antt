@@ -12,7 +12,6 @@ use Rattle.bits.proofs.Packed.{Small, packed-is, run-at}
 use Rattle.event.specs.Event.{Word}
 use Rattle.event.proofs.Tests.{T-of, of-T, same-test}
 use Rattle.regex.specs.Tree.{Tree, specials}
-use Rattle.work.specs.Span.{Obeys}
 use Rattle.work.specs.Table.{obeys, position, startOf, endOf, blockLength, HoldsBlock, block, specialParts, blocks, table, needOf}
 use Rattle.work.proofs.TableLaws.{obeys-eq, block-length, parts-length, table-length}
 

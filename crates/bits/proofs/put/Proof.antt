@@ -1,6 +1,6 @@
 -- `put` sets one bit. Assumes nothing.
-use mathlib.Core.Path.{_≡_, ap, _∙_, subst}
-use Prim.Native.Nat.{ℕ, _/_, _%_}
+use mathlib.Core.Path.{ap, _∙_, subst}
+use Prim.Native.Nat.{ℕ, _/_}
 use borrow.Author.Needs.{needs}
 use Rattle.bits.specs.Bit.{joined, Merged}
 use Rattle.bits.proofs.Laws.{merged-put}

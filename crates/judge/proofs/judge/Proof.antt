@@ -1,6 +1,6 @@
 -- `judge` answers as `judgeAnswer`, and so by the grammar, the language and the collection. Assumes nothing.
 use native.Mathlib.Omega.{arith}
-use mathlib.Core.Path.{_≡_, _∙_}
+use mathlib.Core.Path.{_∙_}
 use borrow.Author.Needs.{needs}
 use Rattle.rule.specs.declared.Outcome.the-variants.{EmptyText, LongText, ForeignByte, NoSentence, ManyNodes, ManySpecials}
 use Rattle.judge.proofs.Joined.{after-refusal, after-acceptance, judgeable}

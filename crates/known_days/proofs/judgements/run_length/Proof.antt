@@ -3,7 +3,6 @@ use borrow.Author.Needs.{needs}
 use Prim.Native.Nat.{_+_, _-_, _≤_}
 use mathlib.Core.Path.{_≡_}
 use lib.ListN.{length}
-use native.Mathlib.Omega.{arith}
 use Rattle.known_days.proofs.judgements.run_length.Statement.{statement}
 use Rattle.known_days.proofs.judgements.run_length.Tie as tie
 
