@@ -157,6 +157,21 @@ trailing-digit (suc k) x h p =
     lowest-step k x (trailingZeros k (x / 2)) (x % 2) refl
     (λ (e : x % 2 ≡ 0). trailing-digit k (x / 2) (shr-lt k 1 (rw add-one h)) (omega arith))
 
+-- and zeros below that
+low-clear : (x : ℕ) → x % 2 ≡ 0 → digit 0 x ≡ 0
+unfolding digit
+low-clear x e = omega arith
+
+below-step : (x t d b : ℕ) → x % 2 ≡ d → b < under d t → ((c : ℕ) → c < t → digit c (x / 2) ≡ 0) → digit b x ≡ 0
+below-step x t zero zero e h ih = low-clear x e
+below-step x t zero (suc b) e h ih = digit-half b x ∙ ih b (omega arith)
+below-step x t (suc d) b e h ih = absurd (omega arith)
+
+trailing-below : (k x b : ℕ) → b < trailingZeros k x → digit b x ≡ 0
+unfolding trailingZeros
+trailing-below zero x b h = absurd (omega arith)
+trailing-below (suc k) x b h = below-step x (trailingZeros k (x / 2)) (x % 2) b refl h (λ c l. trailing-below k (x / 2) c l)
+
 -- ---- what x has and y lacks
 
 lacks : (x y : ℕ) → x < 2 → y < 2 → min x (differ x y) ≡ 1 → (x ≡ 1) × (y ≡ 0)
@@ -182,15 +197,20 @@ missing-lt : (x y : ℕ) → x < 2 ^ 64 → y < 2 ^ 64 → missing x y < 2 ^ 64
 unfolding missing
 missing-lt x y h k = and-lt 64 x (bitXor x y) h (xor-lt 64 x y h k)
 
+-- a digit that is not missing
+not-missing : (b x y : ℕ) → digit b (missing x y) ≡ 0 → hasBit b x ≡ true → hasBit b y ≡ true
+unfolding hasBit digit
+not-missing b x y e f =
+    eq-eqb (digit b y) 1 (has-both (digit b x) (digit b y) (digit-lt b x) (digit-lt b y) (sym (missing-digit b x y) ∙ e)
+    (eqb-true (digit b x) 1 f))
+
 first-missing : (x y : ℕ) → x < 2 ^ 64 → y < 2 ^ 64 → (missing x y ≡ 0) ⊎ (0 < missing x y) → First x y (trailingZeros 64 (missing x y))
 unfolding hasBit digit
 first-missing x y h k (inl e) = rw (e, trailing-of-zero) record {
   within = lit≤ tt;
   there = λ l. absurd (omega arith);
   fresh = λ l. absurd (omega arith);
-  none = λ _ b l f.
-      eq-eqb (digit b y) 1 (has-both (digit b x) (digit b y) (digit-lt b x) (digit-lt b y)
-      (sym (missing-digit b x y) ∙ ap (digit b) e ∙ digit-zero b) (eqb-true (digit b x) 1 f));
+  below = λ b l. not-missing b x y (ap (digit b) e ∙ digit-zero b);
 }
 first-missing x y h k (inr p) =
     let t = trailing-digit 64 (missing x y) (missing-lt x y h k) p in
@@ -200,7 +220,7 @@ first-missing x y h k (inr p) =
       within = omega arith;
       there = λ _. eq-eqb (digit r x) 1 (l .0);
       fresh = λ _. ne-eqb (digit r y) 1 (λ (e : digit r y ≡ 1). omega arith);
-      none = λ e. absurd (omega arith);
+      below = λ b h. not-missing b x y (trailing-below 64 (missing x y) b h);
     }
 
 pub first-law : (x y : ℕ) → x < 2 ^ 64 → y < 2 ^ 64 → First x y (trailingZeros 64 (bitAnd x (bitXor x y)))

@@ -66,9 +66,9 @@ pub record Adds (a : List ℕ) (P : ℕ → Type 0) (b : List ℕ) : Type 0 wher
   pub only : (q : ℕ) → bitAt b q ≡ true → (bitAt a q ≡ true) ⊎ P q
   pub long : length b ≡ length a
 
--- r is a bit that x has and y lacks, or 64 where there is none
+-- r is the lowest bit that x has and y lacks, or 64 where there is none
 pub record First (x y r : ℕ) : Type 0 where
   pub within : r ≤ 64
   pub there : r < 64 → hasBit r x ≡ true
   pub fresh : r < 64 → hasBit r y ≡ false
-  pub none : r ≡ 64 → (b : ℕ) → b < 64 → hasBit b x ≡ true → hasBit b y ≡ true
+  pub below : (b : ℕ) → b < r → hasBit b x ≡ true → hasBit b y ≡ true

@@ -48,7 +48,7 @@ pub fn put(a: &mut [u64], p: usize)
     merge(a, p / 64, one(p % 64));
 }
 
-// A bit that x has and y lacks; 64 where there is none.
+// The lowest bit that x has and y lacks; 64 where there is none.
 pub fn first(x: u64, y: u64) -> usize
     ensures { λ r. ⌜ First x y r ⌝ }
 {

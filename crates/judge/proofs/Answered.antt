@@ -25,7 +25,7 @@ use Rattle.work.proofs.Sizes.{size-unique}
 use Rattle.work.proofs.TableLaws.{parts-length, table-length, table-holds, table-small, holds-in-front}
 use Rattle.work.proofs.WorkSize.{collection-size}
 use Rattle.judge.specs.JudgeAnswer.{JudgeAnswer, values, foreignAt, limited, judged, judgeAnswer}
-use Rattle.judge.specs.JudgeMeaning.{Passed, Legal, KeepsBeyond, HoldsTable, JudgeMeaning}
+use Rattle.judge.specs.JudgeMeaning.{Passed, LegalWord, KeepsBeyond, HoldsTable, JudgeMeaning}
 use Rattle.judge.specs.JudgeMeaning.{rule-refused, long-word, foreign-event, short-table, limit-spent, accepted}
 use Rattle.judge.proofs.Limited.{found-counted}
 use Rattle.judge.proofs.Words.{none-foreign}
@@ -52,7 +52,7 @@ holds-table {s} {t} p w short rest = record {
   parts = specialParts t;
   special = λ u. (λ m. listed-special t u 0 m, λ h. special-listed (h .1) (h .2));
   each = parts-length t;
-  rising = parts-rising (p .0);
+  rising = parts-rising (p .reads);
   blocks = λ k h.
       let l = block-room k (specials t) (length w) h in
       holds-in-front rest short (omega (arith, table-length w t)) (table-holds w t k short h);
@@ -66,18 +66,14 @@ module _ {s : List ℕ} (w : Word) (limit : ℕ) (old : List ℕ) {t : Tree} (p 
   abbrev M : JudgeAnswer → Type 0
   M = JudgeMeaning s w limit old
 
-  -- every size of the collection is the full count
-  above : limit < fullCount w t → (c : ℕ) → SizeOf (Collection w t) c → limit < c
-  above h c z = let e = size-unique (Collection w t) c (fullCount w t) z (collection-size w t) in omega arith
-
   zeros : (n i : ℕ) (rest : List ℕ) → i < n → getD (replicate n 0 ++ rest) i 0 ≡ 0
   zeros n i rest h =
       List·getD-append (replicate n 0) rest 0 i (omega (arith, length-replicate {A = ℕ} n 0)) ∙ getD-replicate {A = ℕ} n i 0 0 h
 
-  limited-means : Legal w → needOf (specials t) (length w) ≤ length old → M (limited t w limit old)
+  limited-means : LegalWord w → needOf (specials t) (length w) ≤ length old → M (limited t w limit old)
   limited-means l room =
       choose M (ltb limit (fullCount w t))
-      (λ e. limit-spent p l room (above (ltb-true _ _ e)) (λ i h. zeros (needOf (specials t) (length w)) i _ h)
+      (λ e. limit-spent p l room (collection-size w t) (ltb-true _ _ e) (λ i h. zeros (needOf (specials t) (length w)) i _ h)
       (keeps-beyond (replicate (needOf (specials t) (length w)) 0) old (length-replicate _ _) room))
       (λ e. subst (λ (n : ℕ). M (values 0 0 n (fullCount w t) (table w t ++ drop (needOf (specials t) (length w)) old)))
       (found-counted w t (drop (needOf (specials t) (length w)) old))
@@ -90,7 +86,7 @@ module _ {s : List ℕ} (w : Word) (limit : ℕ) (old : List ℕ) {t : Tree} (p 
       (λ e. choose M (ltb (foreignAt w) (length w))
       (λ f. let h = ltb-true _ _ f in
       foreign-event p (ltb-false _ _ e) h (leading-found isEvent w .before) (leading-found isEvent w .there h))
-      (λ f. let l : Legal w = record { fits = ltb-false _ _ e; events = none-foreign w (ltb-false _ _ f) } in
+      (λ f. let l : LegalWord w = record { fits = ltb-false _ _ e; events = none-foreign w (ltb-false _ _ f) } in
       choose M (ltb (length old) (needOf (specials t) (length w))) (λ g. short-table p l (ltb-true _ _ g))
       (λ g. limited-means l (ltb-false _ _ g))))
 
@@ -100,8 +96,8 @@ answer-means s w limit old =
     choose (JudgeMeaning s w limit old) (eqb (ruleAnswer s .number) 0)
     (λ e.
     let a = accepting (rule-answered.answer-means s) (eqb-true _ _ e) in
-    subst (λ (t : Tree). JudgeMeaning s w limit old (judged t w limit old)) (sym (tree-is (a .reads)))
-    (judged-means w limit old (a .reads, subst (RuleMeaning s) (a .same) (rule-answered.answer-means s))))
+    subst (λ (t : Tree). JudgeMeaning s w limit old (judged t w limit old)) (sym (tree-is (a .passed .reads)))
+    (judged-means w limit old (a .passed)))
     (λ e.
     rule-refused (subst (RuleMeaning s) (refusing (rule-answered.answer-means s) (eqb-false _ _ e)) (rule-answered.answer-means s)))
 

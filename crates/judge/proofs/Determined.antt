@@ -26,10 +26,10 @@ use Rattle.work.proofs.TableLaws.{table-length}
 use Rattle.work.proofs.TableOnly.{table-numbers}
 use Rattle.work.proofs.WorkSize.{collection-size}
 use Rattle.judge.specs.JudgeAnswer.{JudgeAnswer, values, refusal, limited, judged, judgeAnswer}
-use Rattle.judge.specs.JudgeMeaning.{Passed, Legal, KeepsBeyond, HoldsTable, JudgeMeaning}
+use Rattle.judge.specs.JudgeMeaning.{Passed, LegalWord, KeepsBeyond, HoldsTable, JudgeMeaning}
 use Rattle.judge.specs.JudgeMeaning.{rule-refused, long-word, foreign-event, short-table, limit-spent, accepted}
 use Rattle.judge.proofs.Answered.{keeps-beyond}
-use Rattle.judge.proofs.Joined.{accepting}
+use Rattle.judge.proofs.Joined.{accepting, passes}
 use Rattle.judge.proofs.Limited.{found-counted}
 use Rattle.judge.proofs.Words.{foreign-none}
 use Rattle.judge.proofs.Tested.{at-length, at-foreign, at-table, at-limit, at-spent, at-acceptance}
@@ -47,7 +47,7 @@ split {need} {old} {b} a k e room h =
 -- the parts of a table are the special parts
 held-parts : {s : List ℕ} {w : Word} {t : Tree} {b : List ℕ} → Passed s t → (h : HoldsTable w t b) → h .parts ≡ specialParts t
 held-parts {t = t} p h =
-    rising-one 0 0 (h .parts) (specialParts t) (h .rising) (parts-rising (p .0))
+    rising-one 0 0 (h .parts) (specialParts t) (h .rising) (parts-rising (p .reads))
     (λ u m. let z = h .special u .0 m in special-listed (z .1) (z .2)) (λ u m. h .special u .1 (listed-special t u 0 m))
 
 held-table : {s : List ℕ} {w : Word} {t : Tree} {old b : List ℕ} → Passed s t → length w ≤ 255 → needOf (specials t) (length w) ≤ length old
@@ -64,11 +64,11 @@ module _ (s : List ℕ) (w : Word) (limit : ℕ) (old : List ℕ) (t : Tree) (p 
   passed : judged t w limit old ≡ judgeAnswer s w limit old
   unfolding judgeAnswer
   passed =
-      let e = rule-answered.answer-is (p .1) in
+      let e = rule-answered.answer-is (passes p) in
       let n : ruleAnswer s .number ≡ 0 = ap (λ (a : RuleAnswer). a .number) (sym e) in
-      ap (λ (u : Tree). judged u w limit old) (sym (tree-is (p .0))) ∙ simp (eq-eqb (ruleAnswer s .number) 0 n)
+      ap (λ (u : Tree). judged u w limit old) (sym (tree-is (p .reads))) ∙ simp (eq-eqb (ruleAnswer s .number) 0 n)
 
-  to-limit : Legal w → needOf (specials t) (length w) ≤ length old → limited t w limit old ≡ judgeAnswer s w limit old
+  pub to-limit : LegalWord w → needOf (specials t) (length w) ≤ length old → limited t w limit old ≡ judgeAnswer s w limit old
   to-limit l room = sym (at-limit t w limit old (l .fits) (foreign-none w (l .events)) room) ∙ passed
 
 -- a refusal of the rule text has a number
@@ -92,11 +92,11 @@ answer-is {s} {w} {limit} {old} (foreign-event {t = t} {n = n} p f h b e) =
     ap (λ (x : ℕ). refusal 8 x old) (sym g) ∙ sym (at-foreign t w limit old f (omega arith)) ∙ passed s w limit old t p
 answer-is {s} {w} {limit} {old} (short-table {t = t} p l h) =
     sym (at-table t w limit old (l .fits) (foreign-none w (l .events)) h) ∙ passed s w limit old t p
-answer-is {s} {w} {limit} {old} (limit-spent {t = t} {b = b} p l room above z k) =
+answer-is {s} {w} {limit} {old} (limit-spent {t = t} {c = c} {b = b} p l room y h z k) =
     let n = needOf (specials t) (length w) in
-    let e = split (replicate n 0) k (length-replicate n 0) room (λ i h. z i h ∙ sym (getD-replicate n i 0 0 h)) in
-    let h = above (fullCount w t) (collection-size w t) in
-    ap (λ (x : List ℕ). values 10 0 0 limit x) e ∙ sym (at-spent t w limit old h) ∙ to-limit s w limit old t p l room
+    let e = split (replicate n 0) k (length-replicate n 0) room (λ i m. z i m ∙ sym (getD-replicate n i 0 0 m)) in
+    let f = size-unique (Collection w t) c (fullCount w t) y (collection-size w t) in
+    ap (λ (x : List ℕ). values 10 0 0 limit x) e ∙ sym (at-spent t w limit old (omega arith)) ∙ to-limit s w limit old t p l room
 answer-is {s} {w} {limit} {old} (accepted {t = t} {c = c} {b = b} p l room z h g k) =
     let e = size-unique (Collection w t) c (fullCount w t) z (collection-size w t) in
     let f = held-table p (l .fits) room g k in

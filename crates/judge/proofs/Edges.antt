@@ -32,6 +32,10 @@ zeros n = replicate n 0
 abbrev emptySpans : List ℕ
 emptySpans = 1 ∷ zeros 3 ++ (2 ∷ zeros 3)
 
+-- a block of one that all spans obey, on a word of one event
+abbrev allSpans : List ℕ
+allSpans = 3 ∷ zeros 3 ++ (2 ∷ zeros 3)
+
 cases : List Case
 cases =
     -- "`!a` on a passes with limit 7; limit 6 gives 10."
@@ -42,6 +46,8 @@ cases =
     ∷ (bytes "!a", bytes "a", 0, 18, values 10 0 0 0 (zeros 16 ++ dirt 2))
     -- "`1*` has count 4 on the empty word"
     ∷ (bytes "1*", [], 4, 4, values 0 0 1 4 (1 ∷ zeros 3)) ∷ (bytes "1*", [], 3, 4, values 10 0 0 3 (zeros 4))
+    -- blocks by rising byte offset: the whole, then the `!` at 1, the `&` at 3 and the `!` at 4; the `&`'s record stands behind the last `!`'s
+    ∷ (bytes "a!b&!(ba)", bytes "b", 99, 32, values 0 0 0 20 (zeros 8 ++ emptySpans ++ zeros 8 ++ allSpans))
     -- "9: table too short", before 10
     ∷ (bytes "!a", bytes "a", 6, 15, refusal 9 0 (dirt 15))
     -- "8: a byte outside a to z; place is the first one's offset", before 9
@@ -49,7 +55,9 @@ cases =
     -- "7: word over 255", before 8
     ∷ (bytes "!a", replicate 256 65, 7, 1, refusal 7 0 (dirt 1))
     -- "Judge, after the rule text's row"
-    ∷ (bytes "a)", replicate 256 65, 7, 1, refusal 4 1 (dirt 1)) ∷ []
+    ∷ (bytes "", [], 7, 1, refusal 1 0 (dirt 1)) ∷ (replicate 256 97, [], 7, 4, refusal 2 0 (dirt 4)) ∷ (bytes "aA", [], 7, 4, refusal 3 1 (dirt 4))
+    ∷ (bytes "a)", replicate 256 65, 7, 1, refusal 4 1 (dirt 1)) ∷ (replicate 33 97, [], 7, 4, refusal 5 0 (dirt 4))
+    ∷ (bytes "!!!!!!!!a", [], 7, 0, refusal 6 0 []) ∷ []
 
 worked : Case → Case
 worked (s, w, limit, n, a) = (s, w, limit, n, judgeAnswer s w limit (dirt n))

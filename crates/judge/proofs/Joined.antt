@@ -1,12 +1,11 @@
 -- What the rule reader's answer comes to in the judge's. Assumes nothing.
-use Prim.Native.Nat.{ℕ, _-_, _≤_, _<_}
+use Prim.Native.Nat.{ℕ, _-_, _<_}
 use native.Mathlib.Omega.{arith}
 use mathlib.Core.Path.{_≡_, refl, sym, ap, subst, _∙_}
 use mathlib.Core.List.{List}
 use borrow.Author.Tests.{eq-eqb, ne-eqb}
 use Rattle.event.specs.Event.{Word}
 use Rattle.regex.specs.Tree.{Tree, size, specials}
-use Rattle.regex.specs.Grammar.{Alt, Reads}
 use Rattle.regex.proofs.OneReading.{tree-is}
 use Rattle.rule.specs.RuleAnswer as reader
 use Rattle.rule.specs.RuleAnswer.{RuleAnswer, ruleAnswer, ruleValues, unused}
@@ -19,14 +18,13 @@ use Rattle.work.proofs.Order.{parts-rising}
 use Rattle.owners.specs.Filling.{treeFrom, Recorded}
 use Rattle.owners.proofs.Rebuilt.{tree-from}
 use Rattle.judge.specs.JudgeAnswer.{refusal, judged, judgeAnswer}
+use Rattle.judge.specs.JudgeMeaning.{Passed}
 use Rattle.judge.specs.Judgeable.{Judgeable}
 
 -- an answer that accepts: the tree, and that it is no other answer
 pub record Accepting (s : List ℕ) (a : RuleAnswer) : Type 0 where
   pub tree : Tree
-  pub reads : Reads Alt 0 s tree
-  pub nodes : size tree ≤ 64
-  pub special : specials tree ≤ 7
+  pub passed : Passed s tree
   pub same : a ≡ reader.acceptance tree
 
 pub accepting : {s : List ℕ} {a : RuleAnswer} → RuleMeaning s a → a .number ≡ 0 → Accepting s a
@@ -36,7 +34,15 @@ accepting (foreign-byte f h l b) e = absurd (omega arith)
 accepting (no-sentence l h g) e = absurd (omega arith)
 accepting (many-nodes l r h) e = absurd (omega arith)
 accepting (many-specials l r h g) e = absurd (omega arith)
-accepting (accepted {t = t} l r h g) e = record { tree = t; reads = r; nodes = h; special = g; same = refl }
+accepting (accepted {t = t} l r h g) e = record {
+  tree = t;
+  passed = record { legal = l; reads = r; nodes = h; special = g };
+  same = refl;
+}
+
+-- the reader's answer for a text that passes
+pub passes : {s : List ℕ} {t : Tree} → Passed s t → RuleMeaning s (reader.acceptance t)
+passes p = accepted (p .legal) (p .reads) (p .nodes) (p .special)
 
 -- an answer that refuses has its number and place, and nothing else
 pub refusing : {s : List ℕ} {a : RuleAnswer} → RuleMeaning s a → (a .number ≡ 0 → ⊥) → a ≡ reader.refusal (a .number) (a .place)
@@ -74,7 +80,7 @@ module _ (s : List ℕ) (w : Word) (limit : ℕ) (old : List ℕ) (r : Answer) (
           pad = unused (64 - size (a .tree));
           whole = ap (λ (x : RuleAnswer). x .nodes) (a .same);
           long = sym l;
-          few = omega (arith, a .nodes);
+          few = omega (arith, a .passed .nodes);
         }
 
     rebuilt : treeFrom (r .nodes) m ≡ read-as .tree
@@ -85,11 +91,11 @@ module _ (s : List ℕ) (w : Word) (limit : ℕ) (old : List ℕ) (r : Answer) (
         let a = read-as in
         let l : k ≡ specials (a .tree) = ap (λ (x : RuleAnswer). x .k) (a .same) in
         subst (λ (t : Tree). Judgeable t (r .nodes) m k) (sym rebuilt)
-        (record { recorded = recorded; special = sym l; few = omega (arith, a .special); rising = parts-rising (a .reads) })
+        (record { recorded = recorded; special = sym l; few = omega (arith, a .passed .special); rising = parts-rising (a .passed .reads) })
 
     pub after-acceptance : judged (treeFrom (r .nodes) m) w limit old ≡ judgeAnswer s w limit old
     unfolding judgeAnswer
     after-acceptance =
         let n : ruleAnswer s .number ≡ 0 = ap (λ (x : RuleAnswer). x .number) (sym (known (Accepted m k) e)) in
-        ap (λ (t : Tree). judged t w limit old) (rebuilt ∙ sym (tree-is (read-as .reads)))
+        ap (λ (t : Tree). judged t w limit old) (rebuilt ∙ sym (tree-is (read-as .passed .reads)))
         ∙ simp (eq-eqb (ruleAnswer s .number) 0 n)

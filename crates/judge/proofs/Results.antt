@@ -1,14 +1,15 @@
 -- What follows of every answer of the judge: the bound of the count, and what the answer does not depend on. Assumes nothing.
-use Prim.Native.Nat.{ℕ, _+_, _*_, _≤_}
+use Prim.Native.Nat.{ℕ, _+_, _*_, _≤_, _<_}
 use native.Mathlib.Omega.{arith}
 use mathlib.Core.Path.{_≡_, refl, sym, ap, subst, _∙_}
 use mathlib.Core.Bool.{Bool, true, false, cond}
-use mathlib.Core.Logic.{_⊎_, ⊎-elim}
+use mathlib.Core.Logic.{_⊎_, inl, inr, ⊎-elim, _↔_}
 use mathlib.Core.List.{List, _++_}
 use lib.Dec.{eqb, ltb}
 use lib.ListN.{length, take, replicate, length-replicate}
 use lib.Seq.{take-at}
 use borrow.Author.Tests.{eqb-false}
+use Rattle.bits.proofs.Digits.{below-or-not}
 use Rattle.event.specs.Event.{Word}
 use Rattle.regex.specs.Tree.{Tree, size, specials}
 use Rattle.regex.specs.TreeOf.{treeOf}
@@ -18,15 +19,19 @@ use Rattle.rule.specs.RuleMeaning as meaning
 use Rattle.rule.proofs.Answered as rule-answered
 use Rattle.work.specs.Count.{fullCount}
 use Rattle.work.specs.Walk.{Collection}
+use Rattle.work.specs.SizeOf.{SizeOf}
 use Rattle.work.specs.Table.{needOf, table, found}
 use Rattle.work.proofs.Sizes.{size-unique}
 use Rattle.work.proofs.TableLaws.{table-length}
 use Rattle.work.proofs.WorkBound.{full-bound}
 use Rattle.work.proofs.WorkSize.{collection-size}
 use Rattle.judge.specs.JudgeAnswer.{JudgeAnswer, values, refusal, spent, acceptance, foreignAt, limited, judged, judgeAnswer}
-use Rattle.judge.specs.JudgeMeaning.{Passed, JudgeMeaning}
+use Rattle.judge.specs.JudgeMeaning.{Passed, LegalWord, JudgeMeaning}
 use Rattle.judge.specs.JudgeMeaning.{rule-refused, long-word, foreign-event, short-table, limit-spent, accepted}
 use Rattle.judge.proofs.Answered.{answer-means}
+use Rattle.judge.proofs.Determined.{to-limit}
+use Rattle.judge.proofs.Joined.{passes}
+use Rattle.judge.proofs.Tested.{at-spent, at-acceptance}
 
 -- ---- demand 3: "at most m × (n+1) × (n+2)"
 bound : List ℕ → Word → ℕ
@@ -35,7 +40,7 @@ bound s w = ruleAnswer s .m * (length w + 1) * (length w + 2)
 full-within : {s : List ℕ} (w : Word) {t : Tree} → Passed s t → fullCount w t ≤ bound s w
 unfolding bound
 full-within {s} w {t} p =
-    let e : size t ≡ ruleAnswer s .m = ap (λ (a : RuleAnswer). a .m) (rule-answered.answer-is (p .1)) in
+    let e : size t ≡ ruleAnswer s .m = ap (λ (a : RuleAnswer). a .m) (rule-answered.answer-is (passes p)) in
     subst (λ (m : ℕ). fullCount w t ≤ m * (length w + 1) * (length w + 2)) e (full-bound w t)
 
 meant-within : {s : List ℕ} {w : Word} {limit : ℕ} {old : List ℕ} {a : JudgeAnswer} → JudgeMeaning s w limit old a → a .count ≤ bound s w
@@ -43,8 +48,8 @@ meant-within (rule-refused r) = omega arith
 meant-within (long-word p h) = omega arith
 meant-within (foreign-event p h l b e) = omega arith
 meant-within (short-table p l h) = omega arith
-meant-within {w = w} (limit-spent {t = t} p l r above z k) =
-    let h = above (fullCount w t) (collection-size w t) in
+meant-within {w = w} (limit-spent {t = t} {c = c} p l r y h z k) =
+    let e = size-unique (Collection w t) c (fullCount w t) y (collection-size w t) in
     omega (arith, full-within w p)
 meant-within {w = w} (accepted {t = t} {c = c} p l r z h b k) =
     let e = size-unique (Collection w t) c (fullCount w t) z (collection-size w t) in
@@ -152,3 +157,22 @@ accepts-as s w limit old = go (eqb (ruleAnswer s .number) 0) (eqb-false (ruleAns
 pub limit-unread : (s : List ℕ) (w : Word) (limit limit′ : ℕ) (old : List ℕ) → judgeAnswer s w limit old .number ≡ 0
     → judgeAnswer s w limit′ old .number ≡ 0 → judgeAnswer s w limit old ≡ judgeAnswer s w limit′ old
 limit-unread s w limit limit′ old h k = accepts-as s w limit old h ∙ sym (accepts-as s w limit′ old k)
+
+-- 10 comes exactly when the size of the collection is above the limit
+pub ten-exactly : (s : List ℕ) (w : Word) (limit : ℕ) (old : List ℕ) (t : Tree) (c : ℕ) → Passed s t → LegalWord w
+    → needOf (specials t) (length w) ≤ length old → SizeOf (Collection w t) c
+    → (judgeAnswer s w limit old .number ≡ 10) ↔ (limit < c)
+ten-exactly s w limit old t c p l room z = (λ h. above h (below-or-not limit c), λ h. ten (omega (arith, e)))
+  where
+    e : c ≡ fullCount w t
+    e = size-unique (Collection w t) c (fullCount w t) z (collection-size w t)
+
+    ten : limit < fullCount w t → judgeAnswer s w limit old .number ≡ 10
+    ten h = ap (λ (a : JudgeAnswer). a .number) (sym (to-limit s w limit old t p l room) ∙ at-spent t w limit old h)
+
+    above : judgeAnswer s w limit old .number ≡ 10 → (limit < c) ⊎ (c ≤ limit) → limit < c
+    above h (inl k) = k
+    above h (inr k) =
+        let a : judgeAnswer s w limit old .number ≡ 0 =
+        ap (λ (x : JudgeAnswer). x .number) (sym (to-limit s w limit old t p l room) ∙ at-acceptance t w limit old (omega (arith, e))) in
+        absurd (omega arith)

@@ -239,6 +239,7 @@ module _ {t : Automaton} {r x y : ℕ} {flip : Bool} {count limit : ℕ} where
           fits = omega arith;
           counted = λ z. absurd (true≢false (sym f ∙ z));
           full = λ _. (k, omega arith);
+          spends = s .spends;
           bounded = s .bounded;
           inside = λ q u v. same q ∙ inside′ q u v;
           outside = λ q v. same q ∙ g .outside q v;
@@ -262,6 +263,7 @@ module _ {t : Automaton} {r x y : ℕ} {flip : Bool} {count limit : ℕ} where
         fits = omega arith;
         counted = λ _. d ∙ ap (λ (n : ℕ). count + visits (g .marks) (length (t .word)) n) e;
         full = λ f. absurd (false≢true f);
+        spends = λ f. absurd (false≢true f);
         bounded = g .bounded;
         inside = g .inside;
         outside = g .outside;

@@ -179,6 +179,7 @@ started {m = m} r i x y flip h w f k = record {
   all = λ s q z. w .all q (λ f. absurd (false≢true (sym s ∙ f))) (reached-from (λ p u. start (h .new p u)) z);
   counted = w .counted;
   full = walked-full w;
+  spends = w .spends;
   bounded = w .bounded;
   row = f;
   kept = k;

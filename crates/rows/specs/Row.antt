@@ -49,7 +49,7 @@ abbrev pub visits : (marks : ℕ → List ℕ) (n k : ℕ) → ℕ
 visits marks n k = sumBelow (λ (i : ℕ). tallyBelow (128 * (n + 1)) (bitAt (marks i))) k
 
 -- b is the table with the rows written of the starts below stop, which are all or as many as the limit allows: the marks of each walk are
--- the places reached, and its row says where it ended; c is count and as many more as there are places.
+-- the places reached, and its row says where it ended; c is count and as many more as there are places, or the limit where it is spent.
 -- The lent numbers are 64-bit ones, so their bits determine them.
 pub record Filled (t : Automaton) (r x y : ℕ) (flip : Bool) (count limit : ℕ) (b : List ℕ) (c : ℕ) (spent : Bool) : Type 0 where
   pub stop : ℕ
@@ -61,6 +61,7 @@ pub record Filled (t : Automaton) (r x y : ℕ) (flip : Bool) (count limit : ℕ
   pub fits : count + visits marks (length (t .word)) stop ≤ limit
   pub counted : spent ≡ false → c ≡ count + visits marks (length (t .word)) (length (t .word) + 1)
   pub full : spent ≡ true → (stop ≤ length (t .word)) × (limit < count + visits marks (length (t .word)) (stop + 1))
+  pub spends : spent ≡ true → c ≡ limit
   pub bounded : c ≤ limit
   pub inside : (q : ℕ) → r ≤ q / 256 → q / 256 < r + stop
       → bitAt b q ≡ rowOf (marks (q / 256 - r)) (q / 256 - r) (length (t .word)) x y flip (q % 256)

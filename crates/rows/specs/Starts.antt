@@ -28,6 +28,7 @@ pub record Started (t : Automaton) (r i x y : ℕ) (flip : Bool) (count limit : 
   pub all : spent ≡ false → (q : ℕ) → Reached (StartsAt i x y) (Step t) q → bitAt marks q ≡ true
   pub counted : spent ≡ false → c ≡ count + tallyBelow (128 * (length (t .word) + 1)) (bitAt marks)
   pub full : spent ≡ true → limit < count + tallyBelow (128 * (length (t .word) + 1)) (bitAt marks)
+  pub spends : spent ≡ true → c ≡ limit
   pub bounded : c ≤ limit
   pub row : spent ≡ false → Rowed (t .table) r (rowOf marks i (length (t .word)) x y flip) b
   pub kept : spent ≡ true → b ≡ t .table

@@ -104,7 +104,7 @@ module _ {c a d e : List ℕ} (w m n b : ℕ) (g : Following c a w n d e) (small
 pub following-done : {c a d e : List ℕ} (w m n b : ℕ) → Following c a w n d e → m ≡ getD a w 0 → First m n b → b ≡ 64
     → FollowedWord c a w d e
 following-done {c} {a} w m n b g word f q = record {
-  all = λ r l x. g .done r l (f .none q r l (rw word (sym (word-bit a w r l) ∙ x)));
+  all = λ r l x. g .done r l (f .below r (omega arith) (rw word (sym (word-bit a w r l) ∙ x)));
   old = g .old;
   only = g .only;
   long = g .long;

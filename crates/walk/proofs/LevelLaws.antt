@@ -217,7 +217,7 @@ module _ (t : Automaton) (ready : Ready t) (j : ℕ) (jn : j ≤ length (t .word
       g
 
   pub level-spent : (count limit c : ℕ) → c ≡ tallyBelow 128 (bitAt e) → limit < count + c → count ≤ limit
-      → Levelled t j count limit a x v b y v count true
+      → Levelled t j count limit a x v b y v limit true
   level-spent count limit c k l m =
       let tb = tally-b in
       record {
@@ -233,7 +233,7 @@ module _ (t : Automaton) (ready : Ready t) (j : ℕ) (jn : j ≤ length (t .word
         inside = inside;
         counted = λ f. absurd (true≢false f);
         full = λ _. (refl, omega arith);
-        bounded = m;
+        bounded = omega arith;
         long = marked .long;
         two = refl;
       }

@@ -62,8 +62,8 @@ module _ (a b : List ℕ) (low : ℕ) (f : First (getD a 0 0) (getD b 0 0) low) 
         there = λ v. let l : high < 64 = omega arith in high-bit a high l ∙ g .there l;
         fresh = λ v. let l : high < 64 = omega arith in high-bit b high l ∙ g .fresh l;
         none = λ e. by-half (λ (s : ℕ). bitAt a s ≡ true → bitAt b s ≡ true)
-            (λ s l h. low-bit b s l ∙ f .none (omega arith) s l (sym (low-bit a s l) ∙ h))
-            (λ s l h. high-bit b s l ∙ g .none (omega arith) s l (sym (high-bit a s l) ∙ h));
+            (λ s l h. low-bit b s l ∙ f .below s (omega arith) (sym (low-bit a s l) ∙ h))
+            (λ s l h. high-bit b s l ∙ g .below s (omega arith) (sym (high-bit a s l) ∙ h));
       }
 
 -- ---- what two sets have

@@ -181,6 +181,7 @@ module _ {t : Automaton} {i count limit : ℕ} {a : List ℕ} where
     pub before-spent : spent ≡ true → Walked t count limit a b′ c′ spent
     before-spent f =
         let cx = g .counted in
+        let cw = g .bounded in
         let cy = l .full f in
         let cz = tally-level b′ j in
         let ce = tally-below in
@@ -194,6 +195,7 @@ module _ {t : Automaton} {i count limit : ℕ} {a : List ℕ} where
           counted = λ z. absurd (true≢false (sym f ∙ z));
           before = λ _. (jn, omega arith);
           full = λ _. omega arith;
+          spends = λ _. cy .0;
           bounded = l .bounded;
           long = l .long ∙ g .lengths .0 ∙ sym (g .begun .long);
         }
@@ -209,6 +211,7 @@ module _ {t : Automaton} {i count limit : ℕ} {a : List ℕ} where
     counted = λ _. let n = none in let d = g .counted in omega arith;
     before = λ f. absurd (false≢true f);
     full = λ f. absurd (false≢true f);
+    spends = λ f. absurd (false≢true f);
     bounded = g .bounded;
     long = g .lengths .0 ∙ sym (g .begun .long);
   }

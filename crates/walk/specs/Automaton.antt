@@ -85,14 +85,16 @@ pub record Ready (t : Automaton) : Type 0 where
 -- ---- what a walk leaves
 
 -- b is a with all marked that is reached from its marks, and c is count and as many more. Where that would be more than the limit, the limit
--- is spent: marked is what is reached up to number stop, at which the limit is passed, and counted what is reached before it
+-- is spent: marked is what is reached up to number stop, at which the limit is passed, and c is the limit.
+-- The lent numbers are 64-bit ones, so their bits determine them.
 pub record Walked (t : Automaton) (count limit : ℕ) (a b : List ℕ) (c : ℕ) (spent : Bool) : Type 0 where
   pub stop : ℕ
   pub only : (q : ℕ) → bitAt b q ≡ true → Reached (λ (p : ℕ). bitAt a p ≡ true) (Step t) q
   pub all : (q : ℕ) → (spent ≡ true → q / 128 ≤ stop) → Reached (λ (p : ℕ). bitAt a p ≡ true) (Step t) q → bitAt b q ≡ true
   pub above : spent ≡ true → (q : ℕ) → bitAt b q ≡ true → q / 128 ≤ stop
   pub counted : spent ≡ false → c ≡ count + tallyBelow (128 * (length (t .word) + 1)) (bitAt b)
-  pub before : spent ≡ true → (stop ≤ length (t .word)) × (c ≡ count + tallyBelow (128 * stop) (bitAt b))
+  pub before : spent ≡ true → (stop ≤ length (t .word)) × (count + tallyBelow (128 * stop) (bitAt b) ≤ limit)
   pub full : spent ≡ true → limit < count + tallyBelow (128 * (stop + 1)) (bitAt b)
+  pub spends : spent ≡ true → c ≡ limit
   pub bounded : c ≤ limit
   pub long : length b ≡ length a

@@ -176,7 +176,7 @@ pub record Levelled (t : Automaton) (j count limit : ℕ) (a x v b y u : List �
   pub known : spent ≡ false → OfOpen y u
   pub inside : Among u (t .specials)
   pub counted : spent ≡ false → c ≡ count + tallyBelow 128 (λ (s : ℕ). bitAt b (128 * j + s))
-  pub full : spent ≡ true → (c ≡ count) × (limit < count + tallyBelow 128 (λ (s : ℕ). bitAt b (128 * j + s)))
+  pub full : spent ≡ true → (c ≡ limit) × (limit < count + tallyBelow 128 (λ (s : ℕ). bitAt b (128 * j + s)))
   pub bounded : c ≤ limit
   pub long : length b ≡ length a
   pub two : length u ≡ length v

@@ -90,7 +90,7 @@ pub fn level(
     let more = size(&set);
     if limit - count < more {
         return Tally {
-            count: count,
+            count: limit,
             spent: true,
         };
     }

@@ -15,7 +15,7 @@ ghost use lib.ListN.{length};
 ghost use Rattle.bits.specs.Bit.{bitAt};
 ghost use Rattle.walk.specs.Automaton.{automaton, Ready, Walked};
 
-// How many places were visited, and whether the next ones would be more than the limit.
+// What has been counted, or the limit where it is spent: where the next places would be more than it allows.
 pub struct Tally {
     pub count: u64,
     pub spent: bool,

@@ -1,4 +1,4 @@
--- `first` finds a bit that one number has and the other lacks. Assumes nothing.
+-- `first` finds the lowest bit that one number has and the other lacks. Assumes nothing.
 use native.Mathlib.Omega.{arith}
 use lib.Bits.{bitAnd, bitXor}
 use lib.Count.{trailing-le}
