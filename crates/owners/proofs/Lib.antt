@@ -2,7 +2,7 @@
 pub mod Rebuilt
 pub mod PartLaws
 pub mod SumLaws
-pub mod PlaceLaws
+pub mod BlockLaws
 pub mod Steps
 pub mod Walks
 pub mod Counting

@@ -20,7 +20,7 @@ use Rattle.work.specs.Walk.{complement-inner, star-inner}
 use Rattle.work.proofs.Moves.{part-range, part-part}
 use Rattle.owners.specs.Filling.{Recorded}
 use Rattle.owners.specs.Parts.{allParts, partAt}
-use Rattle.owners.specs.Places.{offsetAt}
+use Rattle.owners.specs.Blocks.{offsetAt}
 
 -- the kind in the record of a part's root
 abbrev pub kindOf : Tree → Kind

@@ -15,7 +15,7 @@ use Rattle.bits.proofs.Digits.{below-or-not, same-or-not}
 use Rattle.regex.specs.declared.Node.{Node}
 use Rattle.moves.specs.Moves.{kindAt, specialKind}
 use Rattle.rows.specs.Row.{sumBelow}
-use Rattle.owners.specs.Places.{offsetAt, specialsBefore, rowAt, FirstRows}
+use Rattle.owners.specs.Blocks.{offsetAt, specialsBefore, rowAt, FirstRows}
 
 -- ---- the special nodes before an offset, counted
 pub record Counting (nodes : List Node) (o m count i : ℕ) : Type 0 where

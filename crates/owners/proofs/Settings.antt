@@ -17,7 +17,7 @@ use Rattle.moves.proofs.Paths.{leads-on}
 use Rattle.walk.specs.Automaton.{automaton, Room, Ready}
 use Rattle.owners.specs.Filling.{Fillable, FilledTable}
 use Rattle.owners.specs.Turns.{Setting, AllTurned}
-use Rattle.owners.proofs.PlaceLaws.{rows-room}
+use Rattle.owners.proofs.BlockLaws.{rows-room}
 use Rattle.owners.proofs.SideLaws.{lefts-low}
 use Rattle.owners.proofs.Steps.{added}
 

@@ -28,10 +28,10 @@ use Rattle.work.proofs.TableLaws.{obeys-eq}
 use Rattle.owners.specs.Filling.{Recorded}
 use Rattle.owners.specs.Parts.{partAt}
 use Rattle.owners.specs.Sides.{Left}
-use Rattle.owners.specs.Places.{firstRow}
+use Rattle.owners.specs.Blocks.{firstRow}
 use Rattle.owners.specs.Turns.{BlocksBelow, Setting}
 use Rattle.owners.proofs.PartLaws.{kindOf, Headed, headed, kind-is, special-is, part-within, part-kind, special-kind}
-use Rattle.owners.proofs.PlaceLaws.{row-of}
+use Rattle.owners.proofs.BlockLaws.{row-of}
 
 -- a run that began as zeros has only what was added
 pub added : {P : ℕ → Type 0} {b : List ℕ} (n q : ℕ) → Adds (replicate n 0) P b → bitAt b q ≡ true → P q

@@ -19,7 +19,7 @@ use Rattle.work.specs.Count.{specialWalks}
 use Rattle.work.specs.Table.{specialParts}
 use Rattle.owners.specs.Filling.{Recorded}
 use Rattle.owners.specs.Parts.{allParts, partAt, sumOver}
-use Rattle.owners.specs.Places.{offsetAt, specialsBefore, rowAt, partsBefore, firstRow}
+use Rattle.owners.specs.Blocks.{offsetAt, specialsBefore, rowAt, partsBefore, firstRow}
 use Rattle.owners.specs.Turns.{ownWalks}
 use Rattle.owners.proofs.PartLaws.{all-length, special-is, offset-is}
 

@@ -13,8 +13,8 @@ use Rattle.work.proofs.Moves.{part-range}
 use Rattle.work.proofs.TableLaws.{holds, parts-length}
 use Rattle.work.proofs.TableOnly.{table-only}
 use Rattle.owners.specs.Turns.{HasBlock, BlocksBelow}
-use Rattle.owners.specs.Places.{firstRow}
-use Rattle.owners.proofs.PlaceLaws.{special-at, index-row}
+use Rattle.owners.specs.Blocks.{firstRow}
+use Rattle.owners.proofs.BlockLaws.{special-at, index-row}
 
 module _ (w : Word) (run : List ℕ) (short : length w ≤ 255) where
   -- a block that stands from row r on stands from number 4 r on

@@ -19,10 +19,10 @@ use Rattle.work.specs.Walk.{exit, Part}
 use Rattle.work.specs.Count.{sumTo, places, fullCount}
 use Rattle.owners.specs.Filling.{Recorded}
 use Rattle.owners.specs.Parts.{partAt}
-use Rattle.owners.specs.Places.{firstRow}
+use Rattle.owners.specs.Blocks.{firstRow}
 use Rattle.owners.specs.Turns.{isComplement, ownWalks, HasBlock, BlocksBelow, Setting, Turned, SpecialsTurned, AllTurned}
 use Rattle.owners.proofs.PartLaws.{kindOf, part-at, Headed, headed, kind-is, special-is}
-use Rattle.owners.proofs.PlaceLaws.{blocks-apart, row-past}
+use Rattle.owners.proofs.BlockLaws.{blocks-apart, row-past}
 use Rattle.owners.proofs.SumLaws.{walksBelow, below-all, below-none, below-more, below-up}
 use Rattle.owners.proofs.Steps.{row-here}
 use Rattle.owners.proofs.Tables.{table-is}

@@ -26,10 +26,10 @@ use Rattle.work.proofs.Walked.{walked-exit}
 use Rattle.work.proofs.WalkSize.{Of, of-sum, places-size}
 use Rattle.work.proofs.Owners.{reached-range}
 use Rattle.owners.specs.Parts.{partAt}
-use Rattle.owners.specs.Places.{firstRow}
+use Rattle.owners.specs.Blocks.{firstRow}
 use Rattle.owners.specs.Turns.{HasBlock, BlocksBelow, Setting}
 use Rattle.owners.proofs.PartLaws.{headed, headed-within}
-use Rattle.owners.proofs.PlaceLaws.{blocks-apart, row-past}
+use Rattle.owners.proofs.BlockLaws.{blocks-apart, row-past}
 use Rattle.owners.proofs.Steps.{special-entry, row-here}
 use Rattle.owners.proofs.Walks.{whole-reached, complement-reached, intersection-reached}
 use Rattle.owners.proofs.Counting.{count-most, count-exact, visits-are, visits-most}

@@ -3,5 +3,5 @@ pub mod Filling
 -- What the private functions do.
 pub mod Parts
 pub mod Sides
-pub mod Places
+pub mod Blocks
 pub mod Turns

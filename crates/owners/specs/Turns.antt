@@ -18,7 +18,7 @@ use Rattle.work.specs.Table.{obeys, table}
 use Rattle.owners.specs.Filling.{Fillable}
 use Rattle.owners.specs.Parts.{partAt}
 use Rattle.owners.specs.Sides.{Lefts}
-use Rattle.owners.specs.Places.{FirstRows, firstRow}
+use Rattle.owners.specs.Blocks.{FirstRows, firstRow}
 
 -- the owner's rows are turned round: where its inner walk does not end
 abbrev pub isComplement : Kind → Bool

@@ -1,9 +1,9 @@
 // The owners of a rule: each special node in its turn, inner ones first, and the whole rule last, fills its block of the span table.
-mod places;
+mod blocks;
 mod sides;
 mod turns;
 
-use crate::places::first_rows;
+use crate::blocks::first_rows;
 use crate::sides::left_sides;
 use crate::turns::fill_all;
 use regex::Node;

@@ -8,7 +8,7 @@ ghost use Prim.Native.Nat.{_<_, _≤_};
 ghost use lib.Dec.{ltb};
 ghost use Rattle.bits.specs.Bit.{indicator};
 ghost use Rattle.moves.specs.Moves.{specialKind};
-ghost use Rattle.owners.specs.Places.{specialsBefore, rowAt, FirstRows};
+ghost use Rattle.owners.specs.Blocks.{specialsBefore, rowAt, FirstRows};
 
 // 1 for a special node with an offset below `limit`, 0 for any other.
 fn one_before(k: Kind, offset: usize, limit: usize) -> usize

@@ -3,8 +3,8 @@ use native.Mathlib.Omega.{arith}
 use mathlib.Core.Path.{refl, sym, _∙_}
 use borrow.Author.Needs.{needs}
 use borrow.Author.Tests.{lt-ltb, le-ltb}
-use Rattle.owners.proofs.places.one_before.Statement.{statement}
-use Rattle.owners.proofs.places.one_before.Tie as tie
+use Rattle.owners.proofs.blocks.one_before.Statement.{statement}
+use Rattle.owners.proofs.blocks.one_before.Tie as tie
 
 pub one-before-spec : {M : Type 1} → statement M
 one-before-spec =

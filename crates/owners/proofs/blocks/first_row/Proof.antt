@@ -4,8 +4,8 @@ use native.Mathlib.Omega.{arith}
 use mathlib.Core.Path.{sym, _∙_}
 use borrow.Author.Needs.{needs}
 use Rattle.owners.proofs.RowLoops.{row-special, row-plain, row-small}
-use Rattle.owners.proofs.places.first_row.Statement.{statement}
-use Rattle.owners.proofs.places.first_row.Tie as tie
+use Rattle.owners.proofs.blocks.first_row.Statement.{statement}
+use Rattle.owners.proofs.blocks.first_row.Tie as tie
 
 pub first-row-spec : {M : Type 1} → statement M
 first-row-spec =

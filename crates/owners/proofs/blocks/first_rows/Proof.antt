@@ -2,8 +2,8 @@
 use Prim.Native.Nat.{_-_}
 use borrow.Author.Needs.{needs}
 use Rattle.owners.proofs.RowLoops.{Placing, placing-begins, placing-on, placing-ends}
-use Rattle.owners.proofs.places.first_rows.Statement.{statement}
-use Rattle.owners.proofs.places.first_rows.Tie as tie
+use Rattle.owners.proofs.blocks.first_rows.Statement.{statement}
+use Rattle.owners.proofs.blocks.first_rows.Tie as tie
 
 abbrev Inv-loop : tie.InvT-loop
 Inv-loop nodes m n rows₀ i₀ rows i = Placing nodes m n rows i

@@ -21,7 +21,7 @@ use Rattle.work.proofs.Order.{listed-special, special-listed}
 use Rattle.work.proofs.TableLaws.{parts-length}
 use Rattle.owners.specs.Filling.{Recorded}
 use Rattle.owners.specs.Parts.{partAt, sumOver}
-use Rattle.owners.specs.Places.{FirstRows, partsBefore, firstRow}
+use Rattle.owners.specs.Blocks.{FirstRows, partsBefore, firstRow}
 use Rattle.owners.proofs.PartLaws.{part-at, part-within, headed}
 use Rattle.owners.proofs.SumLaws.{row-is}
 

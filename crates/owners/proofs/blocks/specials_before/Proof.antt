@@ -3,8 +3,8 @@ use Prim.Native.Nat.{_-_}
 use native.Mathlib.Omega.{arith}
 use borrow.Author.Needs.{needs}
 use Rattle.owners.proofs.RowLoops.{Counting, counting-begins, counting-on, counting-ends}
-use Rattle.owners.proofs.places.specials_before.Statement.{statement}
-use Rattle.owners.proofs.places.specials_before.Tie as tie
+use Rattle.owners.proofs.blocks.specials_before.Statement.{statement}
+use Rattle.owners.proofs.blocks.specials_before.Tie as tie
 
 abbrev Inv-loop : tie.InvT-loop
 Inv-loop m limit nodes count₀ i₀ count i = Counting nodes limit m count i
