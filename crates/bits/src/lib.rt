@@ -55,7 +55,7 @@ pub fn first(x: u64, y: u64) -> usize
     u64::trailing_zeros(x & (x ^ y)) as usize
 }
 
-// The number of ones in the first n numbers.
+// The number of ones in the first n numbers; their bound keeps the sum far below 64 bits.
 pub fn count(a: &[u64], n: usize) -> u64
     requires { ⌜ (n ≤ length (now a)) × (n ≤ 65536) ⌝ }
     ensures { λ r. ⌜ r ≡ onesOf (take n (now (a .entry))) ⌝ }

@@ -23,11 +23,11 @@ pub record JudgeAnswer : Type 0 where
   pub table : List ℕ
 
 abbrev pub values : ℕ → ℕ → ℕ → ℕ → List ℕ → JudgeAnswer
-values number place found count table = record { number = number; place = place; found = found; count = count; table = table }
+values n p f c b = record { number = n; place = p; found = f; count = c; table = b }
 
 -- 01: "on refusal found and count are 0 unless said", "On every refusal but 10 .. no lent buffer changes"
 abbrev pub refusal : ℕ → ℕ → List ℕ → JudgeAnswer
-refusal number place old = values number place 0 0 old
+refusal n p old = values n p 0 0 old
 
 -- 01: "On 10 the needed numbers of the table are all 0 and the reported count is the limit"; "those beyond are never touched"
 abbrev pub spent : ℕ → ℕ → List ℕ → JudgeAnswer
@@ -62,14 +62,14 @@ judgeAnswer s w limit old = afterRule (ruleAnswer s) s w limit old
 
 -- the values of an outcome of the code, with the table at exit
 abbrev pub judgeValues : Outcome → List ℕ → JudgeAnswer
-judgeValues (outcome.Accepted found count) table = values 0 0 found count table
-judgeValues outcome.EmptyText table = refusal 1 0 table
-judgeValues outcome.LongText table = refusal 2 0 table
-judgeValues (outcome.ForeignByte place) table = refusal 3 place table
-judgeValues (outcome.NoSentence place) table = refusal 4 place table
-judgeValues outcome.ManyNodes table = refusal 5 0 table
-judgeValues outcome.ManySpecials table = refusal 6 0 table
-judgeValues outcome.LongWord table = refusal 7 0 table
-judgeValues (outcome.ForeignEvent place) table = refusal 8 place table
-judgeValues outcome.ShortTable table = refusal 9 0 table
-judgeValues (outcome.Spent limit) table = values 10 0 0 limit table
+judgeValues (outcome.Accepted f c) b = values 0 0 f c b
+judgeValues outcome.EmptyText b = refusal 1 0 b
+judgeValues outcome.LongText b = refusal 2 0 b
+judgeValues (outcome.ForeignByte p) b = refusal 3 p b
+judgeValues (outcome.NoSentence p) b = refusal 4 p b
+judgeValues outcome.ManyNodes b = refusal 5 0 b
+judgeValues outcome.ManySpecials b = refusal 6 0 b
+judgeValues outcome.LongWord b = refusal 7 0 b
+judgeValues (outcome.ForeignEvent p) b = refusal 8 p b
+judgeValues outcome.ShortTable b = refusal 9 0 b
+judgeValues (outcome.Spent c) b = values 10 0 0 c b

@@ -1,4 +1,4 @@
-// Marked places: the states of number j are the numbers 2 * j and 2 * j + 1 of the marks.
+// Marked places: those at number j, where j events are used, are elements 2 * j and 2 * j + 1 of the marks, one bit a state.
 ghost use mathlib.Core.Path.{_≡_};
 ghost use mathlib.Core.Bool.{true};
 ghost use Prim.Native.Nat.{_<_};
@@ -26,7 +26,7 @@ pub fn mark(marks: &mut [u64], set: &[u64], j: usize)
     bits::merge(marks, 2 * j + 1, set[1]);
 }
 
-// Whether nothing is marked at number j and no special node is open.
+// Tells that nothing is marked at number j and no special node is open.
 pub fn at_rest(marks: &[u64], opened: &[u64], j: usize) -> bool
     requires { ⌜ (length (now marks) ≡ 512) × (length (now opened) ≡ 2) × (j < 256) ⌝ }
     ensures { λ r. ⌜ (r ≡ true → AtRest (now (marks .entry)) (now (opened .entry)) j) ⌝ }

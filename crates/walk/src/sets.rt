@@ -1,4 +1,4 @@
-// Sets of states: two numbers each, state s as bit s.
+// Sets of states: two u64 each, state s as bit s.
 ghost use mathlib.Core.Path.{_≡_};
 ghost use Prim.Native.Nat.{ℕ, _*_, _≤_, _<_};
 ghost use lib.ListN.{length};
