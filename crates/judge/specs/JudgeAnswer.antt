@@ -22,6 +22,7 @@ pub record JudgeAnswer : Type 0 where
   pub count : ℕ
   pub table : List ℕ
 
+-- an answer by its number, place, found, count and table
 abbrev pub values : ℕ → ℕ → ℕ → ℕ → List ℕ → JudgeAnswer
 values n p f c b = record { number = n; place = p; found = f; count = c; table = b }
 
