@@ -15,6 +15,7 @@ use Rattle.regex.specs.declared.Node.{Node}
 use Rattle.regex.specs.Tree.{Tree, empty, epsilon, letter, union, intersection, concatenation, complement, star, offset, size, isSpecial}
 use Rattle.moves.specs.Moves.{kindAt, specialKind}
 use Rattle.rows.specs.Row.{sumBelow}
+use Rattle.rows.proofs.Sums.{sum-same}
 use Rattle.work.specs.Count.{specialWalks}
 use Rattle.work.specs.Table.{specialParts}
 use Rattle.owners.specs.Filling.{Recorded}
@@ -24,11 +25,6 @@ use Rattle.owners.specs.Turns.{ownWalks}
 use Rattle.owners.proofs.PartLaws.{all-length, special-is, offset-is}
 
 -- ---- the numbers below k
-sum-same : (f g : ℕ → ℕ) (k : ℕ) → ((i : ℕ) → i < k → f i ≡ g i) → sumBelow f k ≡ sumBelow g k
-unfolding sumBelow
-sum-same f g zero h = refl
-sum-same f g (suc k) h = let e = sum-same f g k (λ i l. h i (omega arith)) in let d = h k (omega arith) in omega arith
-
 sum-shift : (g : ℕ → ℕ) (k : ℕ) → sumBelow g (suc k) ≡ g 0 + sumBelow (λ (y : ℕ). g (suc y)) k
 unfolding sumBelow
 sum-shift g zero = refl

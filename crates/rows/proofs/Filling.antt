@@ -3,8 +3,7 @@ use mathlib.Core.Path.{_≡_, refl, sym, ap, _∙_}
 use mathlib.Core.Bool.{Bool, true, false, false≢true, true≢false, cond}
 use mathlib.Core.Logic.{_⊎_, inl, inr, ⊎-elim}
 use mathlib.Core.List.{List}
-use Prim.Native.Nat.{ℕ, zero, suc, _+_, _-_, _*_, _/_, _%_, _≤_, _<_}
-use native.Mathlib.Numerals.{add-one}
+use Prim.Native.Nat.{ℕ, _+_, _-_, _*_, _/_, _%_, _≤_, _<_}
 use native.Mathlib.Omega.{arith}
 use lib.Dec.{eqb}
 use lib.ListN.{length, getD, replicate}
@@ -16,17 +15,7 @@ use Rattle.moves.specs.Reached.{Reached, start, after}
 use Rattle.walk.specs.Automaton.{Automaton, automaton, FreeStep, LetterStep, SpanStep, Step, Ready}
 use Rattle.rows.specs.Row.{rowOf, StartsAt, Apart, sumBelow, visits, Filled}
 use Rattle.rows.specs.Starts.{Started}
-
--- ---- sums
-
-sum-same : (f g : ℕ → ℕ) (k : ℕ) → ((i : ℕ) → i < k → f i ≡ g i) → sumBelow f k ≡ sumBelow g k
-unfolding sumBelow
-sum-same f g zero h = refl
-sum-same f g (suc k) h = let e = sum-same f g k (λ i l. h i (omega arith)) in let d = h k (omega arith) in omega arith
-
-sum-more : (f : ℕ → ℕ) (k : ℕ) → sumBelow f (k + 1) ≡ f k + sumBelow f k
-unfolding sumBelow
-sum-more f k = rw add-one
+use Rattle.rows.proofs.Sums.{sum-same, sum-more}
 
 -- ---- walks over two tables that agree but for an owner's own rows
 

@@ -1,3 +1,5 @@
+-- Sums over the numbers below a bound.
+pub mod Sums
 -- Laws that the proofs of its functions cite.
 mod RowLaws
 mod Filling
