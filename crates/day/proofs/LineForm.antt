@@ -14,7 +14,8 @@ use Rattle.event.proofs.EventLaws.{event-between}
 use Rattle.event.proofs.LeadingLaws.{leading-found}
 use Rattle.event.proofs.Tails.{rest-at}
 use Rattle.event.proofs.Tests.{and-split, T-of, of-T}
-use Rattle.day.specs.DayFile.{eventTag, DayEvent, isDigit, AllDigits, valueOf, Decimal, lineText, LineAt}
+use Rattle.decimal.specs.Numeral.{isDigit, AllDigits, valueOf}
+use Rattle.day.specs.DayFile.{eventTag, DayEvent, Decimal, lineText, LineAt}
 use Rattle.day.specs.DayLines.{digitCount, isSecond, isLine, lineWith, lineOf}
 use Rattle.day.specs.declared.line.LineRead.the-variants.{Formed, Malformed}
 use Rattle.day.proofs.LineLaws.{inside, counted-digits, second-is}
@@ -82,11 +83,13 @@ decimal-of s x c size p =
     let z = second-is d (getD s 2 0) (p .second) in
     let f : getD (take d (drop 2 s)) 0 0 ≡ getD s 2 0 = getD-take d (drop 2 s) 0 0 (omega (arith, z .0)) ∙ getD-drop 2 s 0 0 in
     record {
-      some = omega (arith, z .0);
+      numeral = record {
+        some = omega (arith, z .0);
+        digits = counted-digits (drop 2 s);
+        leading = λ e. n ∙ z .2 (sym f ∙ e);
+        value = p .value;
+      };
       few = omega (arith, z .1);
-      digits = counted-digits (drop 2 s);
-      leading = λ e. n ∙ z .2 (sym f ∙ e);
-      value = p .value;
     }
 
 -- the text from a byte on
@@ -137,12 +140,12 @@ behind ds t a b k n e =
     ap (λ (j : ℕ). getD (a ∷ b ∷ (ds ++ t)) j 0) f ∙ getD-append-add ds t n 0
 
 can-be-second : (ds t : List ℕ) (x : ℕ) → Decimal ds x → isSecond (length ds) (getD (ds ++ t) 0 0) ≡ true
-can-be-second [] t x h = absurd (omega (arith, h .some))
+can-be-second [] t x h = absurd (omega (arith, h .numeral .some))
 can-be-second (b ∷ ds) t x h = go (eqb b 48) refl
   where
     go : (z : Bool) → eqb b 48 ≡ z → isSecond (suc (length ds)) b ≡ true
-    go true e = simp (eq-eqb (suc (length ds)) 1 (h .leading (eqb-true b 48 e)))
-    go false e = simp (e, le-leb 1 (suc (length ds)) (h .some), le-leb (suc (length ds)) 5 (h .few), or-true)
+    go true e = simp (eq-eqb (suc (length ds)) 1 (h .numeral .leading (eqb-true b 48 e)))
+    go false e = simp (e, le-leb 1 (suc (length ds)) (h .numeral .some), le-leb (suc (length ds)) 5 (h .few), or-true)
 
 found-in : (ds rest : List ℕ) (x c : ℕ) → Decimal ds x → T (isEvent c)
     → lineOf (eventTag ∷ 9 ∷ (ds ++ 9 ∷ c ∷ 10 ∷ rest)) ≡ Formed x c (length ds + 2 + 3)
@@ -151,7 +154,7 @@ found-in ds rest x c h v =
     let t : List ℕ = 9 ∷ c ∷ 10 ∷ rest in
     let s : List ℕ = eventTag ∷ 9 ∷ (ds ++ t) in
     let l : getD s (length ds + 2 + 1) 0 ≡ c = behind ds t eventTag 9 (length ds + 2 + 1) 1 (omega arith) in
-    let u : valueOf (take (length ds) (ds ++ t)) ≡ x = ap valueOf (take-append-seam ds t) ∙ h .value in
+    let u : valueOf (take (length ds) (ds ++ t)) ≡ x = ap valueOf (take-append-seam ds t) ∙ h .numeral .value in
     let f : isLine (length ds) s ≡ true = simp (
       can-be-second ds t x h,
       behind ds t eventTag 9 (length ds + 2) 0 (omega arith),
@@ -159,7 +162,8 @@ found-in ds rest x c h v =
       of-T (isEvent c) v,
       behind ds t eventTag 9 (length ds + 2 + 2) 2 (omega arith),
     ) in
-    ap (λ (d : ℕ). lineWith d s) (count-run ds (c ∷ 10 ∷ rest) (h .digits)) ∙ rw f (ap₂ (λ (y b : ℕ). Formed y b (length ds + 2 + 3)) u l)
+    ap (λ (d : ℕ). lineWith d s) (count-run ds (c ∷ 10 ∷ rest) (h .numeral .digits))
+    ∙ rw f (ap₂ (λ (y b : ℕ). Formed y b (length ds + 2 + 3)) u l)
 
 pub line-found : (s : List ℕ) (e : DayEvent) (rest : List ℕ) → LineAt s e rest
     → (size : ℕ) × (lineOf s ≡ Formed (e .second) (e .letter) size) × (drop size s ≡ rest)

@@ -14,16 +14,12 @@ use Rattle.event.proofs.Tests.{and-split, or-split, T-of}
 use Rattle.event.specs.Leading.{leading}
 use Rattle.event.proofs.LeadingLaws.{leading-found}
 use Rattle.event.proofs.Tails.{tail, tail-is, rest-at}
-use Rattle.day.specs.DayFile.{isDigit, AllDigits, valueFrom, valueOf}
+use Rattle.decimal.specs.Numeral.{isDigit, AllDigits, valueFrom, valueOf}
+use Rattle.decimal.proofs.NumeralLaws.{digit-between}
 use Rattle.day.specs.DayLines.{digitCount, isSecond, isLine, lineWith, lineOf}
 use Rattle.day.specs.declared.line.LineRead.the-variants.{Formed, Malformed}
 
 -- ---- the number that digits write
-pub digit-between : (b : ℕ) → T (isDigit b) → (48 ≤ b) × (b ≤ 57)
-digit-between b h =
-    let p = and-split (leb 48 b) (leb b 57) h in
-    (leb→le 48 b (p .0), leb→le b 57 (p .1))
-
 pub digit-at : (s : List ℕ) (i : ℕ) → i < length s → AllDigits (drop i s) → (48 ≤ getD s i 0) × (getD s i 0 ≤ 57)
 digit-at s i h a = digit-between (getD s i 0) (subst AllDigits (rest-at s i h) a .0)
 

@@ -1,11 +1,11 @@
 -- The day file: what a line is, and what good lines are. Assumes nothing.
-use Prim.Native.Nat.{ℕ, _+_, _-_, _*_, _≤_}
+use Prim.Native.Nat.{ℕ, _≤_}
 use mathlib.Core.Path.{_≡_}
-use mathlib.Core.Bool.{Bool, _&&_}
 use mathlib.Core.List.{List, [], _∷_, _++_}
-use lib.Dec.{T, leb}
-use lib.ListN.{length, getD}
+use lib.Dec.{T}
+use lib.ListN.{length}
 use Rattle.event.specs.Event.{isEvent}
+use Rattle.decimal.specs.Numeral.{Numeral}
 
 -- 01, The day file: "is at most 86,399"
 abbrev pub lastSecond : ℕ
@@ -26,28 +26,10 @@ secondOf e = e .second
 abbrev pub letterOf : DayEvent → ℕ
 letterOf e = e .letter
 
--- decimal digits, and the number that a row of them writes after those that wrote x
-abbrev pub isDigit : ℕ → Bool
-isDigit b = leb 48 b && leb b 57
-
-abbrev pub AllDigits : List ℕ → Type 0
-AllDigits [] = Unit {0}
-AllDigits (b ∷ ds) = T (isDigit b) × AllDigits ds
-
-abbrev pub valueFrom : ℕ → List ℕ → ℕ
-valueFrom x [] = x
-valueFrom x (b ∷ ds) = valueFrom (x * 10 + (b - 48)) ds
-
-abbrev pub valueOf : List ℕ → ℕ
-valueOf ds = valueFrom 0 ds
-
 -- 01: "The second has 1 to 5 digits, no leading zero except `0` itself"
 pub record Decimal (ds : List ℕ) (x : ℕ) : Type 0 where
-  pub some : 1 ≤ length ds
+  pub numeral : Numeral ds x
   pub few : length ds ≤ 5
-  pub digits : AllDigits ds
-  pub leading : getD ds 0 0 ≡ 48 → length ds ≡ 1
-  pub value : valueOf ds ≡ x
 
 -- 01: "One record a line, fields parted by one tab, each line ended by a newline (byte 10): `E`, the second of the day in decimal,
 -- the event letter."

@@ -7,7 +7,8 @@ use lib.Dec.{leb, ltb, eqb}
 use lib.ListN.{length, getD, take, drop}
 use Rattle.event.specs.Event.{isEvent}
 use Rattle.event.specs.Leading.{leading}
-use Rattle.day.specs.DayFile.{lastSecond, eventTag, DayEvent, isDigit, valueOf}
+use Rattle.decimal.specs.Numeral.{isDigit, valueOf}
+use Rattle.day.specs.DayFile.{lastSecond, eventTag, DayEvent}
 use Rattle.day.specs.declared.Outcome.the-variants as outcome
 use Rattle.day.specs.declared.line.LineRead.{LineRead}
 use Rattle.day.specs.declared.line.LineRead.the-variants.{Formed, Malformed}

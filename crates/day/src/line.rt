@@ -3,7 +3,7 @@ use event::is_event;
 ghost use mathlib.Core.Path.{_≡_};
 ghost use Prim.Native.Nat.{_≤_};
 ghost use lib.ListN.{length, getD};
-ghost use Rattle.day.specs.DayFile.{isDigit, valueOf, AllDigits};
+ghost use Rattle.decimal.specs.Numeral.{isDigit, valueOf, AllDigits};
 ghost use Rattle.day.specs.DayLines.{digitCount, isSecond, lineOf};
 
 // The line's tag and the bytes that part and end its fields.

@@ -1,8 +1,8 @@
 -- Laws of the judge.
 mod Limited
 mod Words
-mod Tested
-mod Joined
+pub mod Tested
+pub mod Joined
 pub mod Answered
 pub mod Determined
 pub mod Results

@@ -6,7 +6,7 @@ use native.Mathlib.Omega.{arith}
 use mathlib.Core.Path.{_≡_, sym, _∙_}
 use lib.ListN.{length, drop}
 use Rattle.event.proofs.LeadingLaws.{leading-on, leading-here, leading-end}
-use Rattle.day.specs.DayFile.{isDigit}
+use Rattle.decimal.specs.Numeral.{isDigit}
 use Rattle.day.specs.DayLines.{digitCount}
 use Rattle.day.proofs.line.count_digits.Statement.{statement}
 use Rattle.day.proofs.line.count_digits.Tie as tie

@@ -4,7 +4,7 @@ use borrow.Author.Needs.{needs}
 use native.Mathlib.Omega.{arith}
 use mathlib.Core.Path.{_≡_, refl, sym, ap, _∙_}
 use lib.ListN.{length, drop, drop-of-length-le}
-use Rattle.day.specs.DayFile.{AllDigits, valueFrom, valueOf}
+use Rattle.decimal.specs.Numeral.{AllDigits, valueFrom, valueOf}
 use Rattle.day.proofs.LineLaws.{digit-at, digits-on, value-on, ten-more, ten-few}
 use Rattle.day.proofs.line.value_of.Statement.{statement}
 use Rattle.day.proofs.line.value_of.Tie as tie

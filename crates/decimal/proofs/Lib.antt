@@ -1,0 +1,3 @@
+-- Laws of decimal numerals.
+pub mod NumeralLaws
+mod Spelling

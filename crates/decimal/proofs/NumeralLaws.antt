@@ -1,0 +1,211 @@
+-- Laws of decimal numerals: `decimal` is the one numeral of a number, how many digits it has, and how it is made by ten. Assumes nothing.
+use Prim.Native.Nat.{ℕ, zero, suc, _+_, _-_, _*_, _/_, _%_, _^_, _≤_, _<_}
+use native.Mathlib.Omega.{arith}
+use mathlib.Core.Path.{_≡_, refl, sym, ap, subst, _∙_}
+use mathlib.Core.Bool.{Bool, true, false, _&&_}
+use mathlib.Core.List.{List, [], _∷_, _++_}
+use mathlib.Core.Logic.{_⊎_, inl, inr}
+use lib.Dec.{T, leb, ltb}
+use lib.ListN.{length, getD, length-append, List·getD-append}
+use borrow.Author.Tests.{ltb-true, ltb-false, leb-true, lt-ltb, le-ltb, le-leb}
+use Rattle.decimal.specs.Numeral.{isDigit, AllDigits, valueFrom, valueOf, Numeral}
+use Rattle.decimal.specs.Decimal.{decimalIn, decimal}
+
+-- ---- digits and what they write
+
+pub digit-between : (b : ℕ) → T (isDigit b) → (48 ≤ b) × (b ≤ 57)
+digit-between b h = go (leb 48 b) (leb b 57) refl refl h
+  where
+    go : (s t : Bool) → leb 48 b ≡ s → leb b 57 ≡ t → T (s && t) → (48 ≤ b) × (b ≤ 57)
+    go true true e f h = (leb-true 48 b e, leb-true b 57 f)
+    go true false e f h = absurd h
+    go false t e f h = absurd h
+
+digit-is : (d : ℕ) → d < 10 → T (isDigit (48 + d))
+digit-is d h = rw (le-leb 48 (48 + d) (omega arith), le-leb (48 + d) 57 (omega arith)) tt
+
+digits-append : (ds es : List ℕ) → AllDigits ds → AllDigits es → AllDigits (ds ++ es)
+digits-append [] es p q = q
+digits-append (b ∷ ds) es p q = (p .0, digits-append ds es (p .1) q)
+
+digits-split : (ds es : List ℕ) → AllDigits (ds ++ es) → AllDigits ds × AllDigits es
+digits-split [] es p = (tt, p)
+digits-split (b ∷ ds) es p = let q = digits-split ds es (p .1) in ((p .0, q .0), q .1)
+
+value-append : (x : ℕ) (ds es : List ℕ) → valueFrom x (ds ++ es) ≡ valueFrom (valueFrom x ds) es
+value-append x [] es = refl
+value-append x (b ∷ ds) es = value-append (x * 10 + (b - 48)) ds es
+
+-- more digits never write less
+value-grows : (x : ℕ) (ds : List ℕ) → x ≤ valueFrom x ds
+value-grows x [] = omega arith
+value-grows x (b ∷ ds) = omega (arith, value-grows (x * 10 + (b - 48)) ds)
+
+-- ---- one digit, and a digit behind others
+
+one-numeral : (x : ℕ) → x < 10 → Numeral ((48 + x) ∷ []) x
+one-numeral x h = record {
+  some = omega arith;
+  digits = (digit-is x h, tt);
+  leading = λ e. refl;
+  value = omega arith;
+}
+
+-- digits that write more than 0 have no 0 in front
+front-not : (ds : List ℕ) (x : ℕ) → Numeral ds x → 1 ≤ x → getD ds 0 0 ≡ 48 → ⊥
+front-not [] x n h e = omega (arith, n .some)
+front-not (b ∷ []) x n h e = omega (arith, n .value)
+front-not (b ∷ c ∷ ds) x n h e = omega (arith, n .leading e)
+
+more-numeral : (ds : List ℕ) (x : ℕ) → 10 ≤ x → Numeral ds (x / 10) → Numeral (ds ++ (48 + x % 10) ∷ []) x
+more-numeral ds x h n =
+    let l = length-append ds ((48 + x % 10) ∷ []) in
+    let f : getD (ds ++ (48 + x % 10) ∷ []) 0 0 ≡ getD ds 0 0 = List·getD-append ds ((48 + x % 10) ∷ []) 0 0 (n .some) in
+    record {
+      some = omega arith;
+      digits = digits-append ds ((48 + x % 10) ∷ []) (n .digits) (digit-is (x % 10) (omega arith), tt);
+      leading = λ e. absurd (front-not ds (x / 10) n (omega arith) (sym f ∙ e));
+      value = omega (arith, value-append 0 ds ((48 + x % 10) ∷ []), n .value);
+    }
+
+last-of : (b : ℕ) (ds : List ℕ) → (es : List ℕ) × (l : ℕ) × (b ∷ ds ≡ es ++ l ∷ [])
+last-of b [] = ([], b, refl)
+last-of b (c ∷ ds) = let (es, l, e) = last-of c ds in (b ∷ es, l, ap (λ (t : List ℕ). b ∷ t) e)
+
+-- how a numeral of x ends: it is one digit, or what stands before its last digit is a numeral of the tenth
+data Ends (ds : List ℕ) (x : ℕ) : Type 0 where
+  alone : x < 10 → ds ≡ (48 + x) ∷ [] → Ends ds x
+  behind : {es : List ℕ} → 10 ≤ x → Numeral es (x / 10) → ds ≡ es ++ (48 + x % 10) ∷ [] → Ends ds x
+
+ends-in : (es : List ℕ) (b x : ℕ) → Numeral (es ++ b ∷ []) x → Ends (es ++ b ∷ []) x
+ends-in [] b x n =
+    let u = digit-between b (n .digits .0) in
+    let h : x < 10 = omega (arith, n .value) in
+    let e : b ≡ 48 + x = omega (arith, n .value) in
+    alone h (ap (λ (k : ℕ). k ∷ []) e)
+ends-in (c ∷ es) b x n =
+    let l = length-append es (b ∷ []) in
+    let d = digits-split (c ∷ es) (b ∷ []) (n .digits) in
+    let u = digit-between b (d .1 .0) in
+    let w = digit-between c (d .0 .0) in
+    let v : valueOf (c ∷ es) * 10 + (b - 48) ≡ x = sym (value-append 0 (c ∷ es) (b ∷ [])) ∙ n .value in
+    let g = value-grows (0 * 10 + (c - 48)) es in
+    let k : (c ≡ 48 → ⊥) = λ (e : c ≡ 48). omega (arith, n .leading e) in
+    let e : b ≡ 48 + x % 10 = omega arith in
+    behind {es = c ∷ es} (omega arith) (record { some = omega arith; digits = d .0; leading = λ q. absurd (k q); value = omega arith })
+    (ap (λ (a : ℕ). c ∷ es ++ a ∷ []) e)
+
+ends : (ds : List ℕ) (x : ℕ) → Numeral ds x → Ends ds x
+ends [] x n = absurd (omega (arith, n .some))
+ends (c ∷ ds) x n =
+    let (es, b, e) = last-of c ds in
+    subst (λ (t : List ℕ). Ends t x) (sym e) (ends-in es b x (subst (λ (t : List ℕ). Numeral t x) e n))
+
+-- ---- the computed numeral, where d + 1 digits are enough
+
+pub by-ten : (x : ℕ) → (x < 10) ⊎ (10 ≤ x)
+by-ten x = go (ltb x 10) refl
+  where
+    go : (t : Bool) → ltb x 10 ≡ t → (x < 10) ⊎ (10 ≤ x)
+    go true e = inl (ltb-true x 10 e)
+    go false e = inr (ltb-false x 10 e)
+
+one-digit : (d x : ℕ) → x < 10 → decimalIn d x ≡ (48 + x) ∷ []
+unfolding decimalIn
+one-digit zero x h = let e : 48 + x % 10 ≡ 48 + x = omega arith in ap (λ (b : ℕ). b ∷ []) e
+one-digit (suc d) x h = rw (lt-ltb x 10 h)
+
+more-digits : (d x : ℕ) → 10 ≤ x → decimalIn (suc d) x ≡ decimalIn d (x / 10) ++ (48 + x % 10) ∷ []
+unfolding decimalIn
+more-digits d x h = rw (le-ltb x 10 h)
+
+tenth-below : (d x : ℕ) → x < 10 ^ suc (suc d) → x / 10 < 10 ^ suc d
+tenth-below d x h = omega arith
+
+-- a digit more than enough is not written
+enough : (d x : ℕ) → x < 10 ^ suc d → decimalIn (suc d) x ≡ decimalIn d x
+enough zero x h = one-digit 1 x h ∙ sym (one-digit 0 x h)
+enough (suc d) x h = go (by-ten x) (enough d (x / 10) (tenth-below d x h))
+  where
+    go : (x < 10) ⊎ (10 ≤ x) → decimalIn (suc d) (x / 10) ≡ decimalIn d (x / 10) → decimalIn (suc (suc d)) x ≡ decimalIn (suc d) x
+    go (inl l) e = one-digit (suc (suc d)) x l ∙ sym (one-digit (suc d) x l)
+    go (inr g) e = more-digits (suc d) x g ∙ ap (λ (ds : List ℕ). ds ++ (48 + x % 10) ∷ []) e ∙ sym (more-digits d x g)
+
+numeral-in : (d x : ℕ) → x < 10 ^ suc d → Numeral (decimalIn d x) x
+numeral-in zero x h = rw (one-digit 0 x h) (one-numeral x h)
+numeral-in (suc d) x h = go (by-ten x) (numeral-in d (x / 10) (tenth-below d x h))
+  where
+    go : (x < 10) ⊎ (10 ≤ x) → Numeral (decimalIn d (x / 10)) (x / 10) → Numeral (decimalIn (suc d) x) x
+    go (inl l) n = rw (one-digit (suc d) x l) (one-numeral x l)
+    go (inr g) n = rw (more-digits d x g) (more-numeral (decimalIn d (x / 10)) x g n)
+
+-- every numeral of x is the computed one
+is-in : (d : ℕ) (ds : List ℕ) (x : ℕ) → x < 10 ^ suc d → Numeral ds x → ds ≡ decimalIn d x
+is-in zero ds x h n = go (ends ds x n)
+  where
+    go : Ends ds x → ds ≡ decimalIn 0 x
+    go (alone l e) = e ∙ sym (one-digit 0 x l)
+    go (behind g m e) = absurd (omega arith)
+is-in (suc d) ds x h n = go (ends ds x n) (λ es m. is-in d es (x / 10) (tenth-below d x h) m)
+  where
+    go : Ends ds x → ((es : List ℕ) → Numeral es (x / 10) → es ≡ decimalIn d (x / 10)) → ds ≡ decimalIn (suc d) x
+    go (alone l e) next = e ∙ sym (one-digit (suc d) x l)
+    go (behind {es = es} g m e) next = e ∙ ap (λ (t : List ℕ). t ++ (48 + x % 10) ∷ []) (next es m) ∙ sym (more-digits d x g)
+
+-- ---- how many digits
+
+digit-added : (d x : ℕ) → 10 ≤ x → length (decimalIn (suc d) x) ≡ length (decimalIn d (x / 10)) + 1
+digit-added d x h = ap length (more-digits d x h) ∙ length-append (decimalIn d (x / 10)) ((48 + x % 10) ∷ [])
+
+length-in : (d x : ℕ) → (1 ≤ length (decimalIn d x)) × (length (decimalIn d x) ≤ suc d)
+unfolding decimalIn
+length-in zero x = omega arith
+length-in (suc d) x = go (by-ten x) (length-in d (x / 10) .1)
+  where
+    go : (x < 10) ⊎ (10 ≤ x) → length (decimalIn d (x / 10)) ≤ suc d
+        → (1 ≤ length (decimalIn (suc d) x)) × (length (decimalIn (suc d) x) ≤ suc (suc d))
+    go (inl l) h = omega (arith, ap length (one-digit (suc d) x l))
+    go (inr g) h = omega (arith, digit-added d x g)
+
+-- a number below ten to a power has no more digits than that, however many are allowed
+few-in : (d e x : ℕ) → x < 10 ^ suc e → length (decimalIn d x) ≤ suc e
+few-in zero e x h = omega (arith, length-in 0 x)
+few-in (suc d) zero x h = omega (arith, ap length (one-digit (suc d) x h))
+few-in (suc d) (suc e) x h = go (by-ten x) (few-in d e (x / 10) (tenth-below e x h))
+  where
+    go : (x < 10) ⊎ (10 ≤ x) → length (decimalIn d (x / 10)) ≤ suc e → length (decimalIn (suc d) x) ≤ suc (suc e)
+    go (inl l) k = omega (arith, ap length (one-digit (suc d) x l))
+    go (inr g) k = omega (arith, digit-added d x g)
+
+-- ---- the laws that others cite
+
+pub decimal-numeral : (x : ℕ) → x < 2 ^ 64 → Numeral (decimal x) x
+decimal-numeral x h = numeral-in 19 x (omega arith)
+
+-- no other row of digits is a numeral of x
+pub numeral-is : {ds : List ℕ} {x : ℕ} → x < 2 ^ 64 → Numeral ds x → ds ≡ decimal x
+numeral-is {ds} {x} h n = is-in 19 ds x (omega arith) n
+
+pub decimal-some : (x : ℕ) → 1 ≤ length (decimal x)
+decimal-some x = length-in 19 x .0
+
+pub decimal-length : (x : ℕ) → length (decimal x) ≤ 20
+decimal-length x = length-in 19 x .1
+
+-- so a number up to 99,999 has at most 5 digits
+pub decimal-few : (d x : ℕ) → 1 ≤ d → x < 10 ^ d → length (decimal x) ≤ d
+decimal-few zero x h l = absurd (omega arith)
+decimal-few (suc d) x h l = few-in 19 d x l
+
+pub decimal-three : (x : ℕ) → x ≤ 999 → length (decimal x) ≤ 3
+decimal-three x h = decimal-few 3 x (omega arith) (omega arith)
+
+-- by the last digit
+pub decimal-one : (x : ℕ) → x < 10 → decimal x ≡ (48 + x) ∷ []
+decimal-one x h = one-digit 19 x h
+
+pub decimal-more : (x : ℕ) → 10 ≤ x → x < 2 ^ 64 → decimal x ≡ decimal (x / 10) ++ (48 + x % 10) ∷ []
+decimal-more x h l = more-digits 18 x h ∙ ap (λ (ds : List ℕ). ds ++ (48 + x % 10) ∷ []) (sym (enough 18 (x / 10) (omega arith)))
+
+pub decimal-added : (x : ℕ) → 10 ≤ x → x < 2 ^ 64 → length (decimal x) ≡ length (decimal (x / 10)) + 1
+decimal-added x h l = ap length (decimal-more x h l) ∙ length-append (decimal (x / 10)) ((48 + x % 10) ∷ [])

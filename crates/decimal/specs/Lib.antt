@@ -1,0 +1,3 @@
+-- Numbers as decimal texts.
+pub mod Numeral
+pub mod Decimal

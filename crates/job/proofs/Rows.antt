@@ -1,0 +1,166 @@
+-- What a job comes to, row by row, by what its texts mean. Assumes nothing.
+use Prim.Native.Nat.{ℕ, _+_, _*_, _≤_, _<_}
+use native.Mathlib.Omega.{arith}
+use mathlib.Core.Path.{_≡_, refl, sym, ap, ap₂, subst, _∙_}
+use mathlib.Core.Bool.{Bool, true, false, true≢false}
+use mathlib.Core.Logic.{⊎-elim}
+use mathlib.Core.List.{List, [], _∷_, _++_, map}
+use lib.Dec.{eqb}
+use lib.ListN.{length, take, drop, replicate, length-replicate, length-map}
+use lib.Seq.{take-at}
+use borrow.Author.Tests.{eq-eqb, ne-eqb, le-ltb}
+use Rattle.bits.proofs.Digits.{same-or-not}
+use Rattle.event.specs.Event.{Word}
+use Rattle.regex.specs.Tree.{Tree, size, specials}
+use Rattle.rule.specs.RuleAnswer as reader
+use Rattle.rule.specs.RuleAnswer.{RuleAnswer, ruleAnswer}
+use Rattle.rule.specs.RuleMeaning.{RuleMeaning, empty-text, long-text, foreign-byte, no-sentence, many-nodes, many-specials}
+use Rattle.rule.specs.RuleMeaning as rule-meaning
+use Rattle.rule.proofs.Answered as rule-answered
+use Rattle.day.specs.DayFile.{DayEvent, letterOf, secondOf}
+use Rattle.day.specs.DayAnswer as day
+use Rattle.day.specs.DayAnswer.{DayAnswer, dayAnswer}
+use Rattle.day.specs.DayMeaning.{DayMeaning, Whole}
+use Rattle.day.specs.DayMeaning as day-meaning
+use Rattle.day.proofs.Answered as day-answered
+use Rattle.work.specs.Count.{fullCount}
+use Rattle.work.specs.Table.{needOf, table, found, block, blockLength}
+use Rattle.work.proofs.WorkBound.{full-bound}
+use Rattle.judge.specs.JudgeAnswer as judge
+use Rattle.judge.specs.JudgeAnswer.{JudgeAnswer, judgeAnswer}
+use Rattle.judge.specs.JudgeMeaning.{Passed, LegalWord}
+use Rattle.judge.proofs.Determined.{to-limit}
+use Rattle.judge.proofs.Joined.{Accepting, accepting, refusing, passes}
+use Rattle.judge.proofs.Tested.{need-most, at-acceptance}
+use Rattle.listing.specs.Marked.{listing}
+use Rattle.job.specs.JobAnswer.{JobResult, refused, listed, limitOf, afterJudge, afterDay, afterRule, isJob, ruleOf, dayOf, jobResult}
+use Rattle.job.specs.JobMeaning.{Parted, DayRefused, Judged}
+use Rattle.job.proofs.Days.{DayAccepting, day-accepting, rebuffered, legal-word}
+use Rattle.job.proofs.Listed.{first-block, heading}
+use Rattle.job.proofs.Parting.{parted-job, parted-is-job, parted-rule, parted-day}
+
+-- ---- what the rows come to
+none-parted : (s : List ℕ) → ((rule file : List ℕ) → Parted s rule file → ⊥) → isJob s ≡ false
+none-parted s h = either (isJob s) refl
+  where
+    either : (b : Bool) → isJob s ≡ b → isJob s ≡ false
+    either false e = e
+    either true e = absurd (h (ruleOf s) (dayOf s) (parted-job s e))
+
+pub result-none : {s : List ℕ} → ((rule file : List ℕ) → Parted s rule file → ⊥) → jobResult s ≡ refused 16 0
+unfolding jobResult
+result-none {s} h = simp (none-parted s h)
+
+parted-result : {s rule file : List ℕ} → Parted s rule file → jobResult s ≡ afterRule rule file (ruleAnswer rule)
+unfolding jobResult
+parted-result p = rw (parted-is-job p) (ap₂ (λ (x y : List ℕ). afterRule x y (ruleAnswer x)) (parted-rule p) (parted-day p))
+
+-- a refusal of the rule has a number
+rule-refusal-number : {s : List ℕ} {a : RuleAnswer} → RuleMeaning s a → a .m ≡ 0 → a .number ≡ 0 → ⊥
+rule-refusal-number (empty-text h) m e = omega arith
+rule-refusal-number (long-text h) m e = omega arith
+rule-refusal-number (foreign-byte f h l b) m e = omega arith
+rule-refusal-number (no-sentence l h g) m e = omega arith
+rule-refusal-number (many-nodes l r h) m e = omega arith
+rule-refusal-number (many-specials l r h g) m e = omega arith
+rule-refusal-number (rule-meaning.accepted {t = t} l r h g) m e = omega arith
+
+pub refusal-number : {s : List ℕ} {n p : ℕ} → RuleMeaning s (reader.refusal n p) → n ≡ 0 → ⊥
+refusal-number m e = rule-refusal-number m refl e
+
+pub result-rule : {s rule file : List ℕ} {n p : ℕ} → Parted s rule file → RuleMeaning rule (reader.refusal n p) → jobResult s ≡ refused n p
+result-rule {rule = rule} {file = file} {n = n} {p = p} d m =
+    parted-result d ∙ ap (afterRule rule file) (sym (rule-answered.answer-is m)) ∙ simp (ne-eqb n 0 (refusal-number m))
+
+-- the rule passes
+rule-passed : {s rule file : List ℕ} {t : Tree} → Parted s rule file → Passed rule t
+    → jobResult s ≡ afterDay rule (size t) (specials t) (dayAnswer file (replicate 255 0) (replicate 255 0))
+rule-passed {rule = rule} {file = file} d p = parted-result d ∙ ap (afterRule rule file) (sym (rule-answered.answer-is (passes p)))
+
+zeros-long : (n : ℕ) → n ≤ 255 → n ≤ length {A = ℕ} (replicate 255 0)
+zeros-long n h = omega (arith, length-replicate {A = ℕ} 255 0)
+
+pub result-day : {s rule file : List ℕ} {t : Tree} {n p : ℕ} → Parted s rule file → Passed rule t → DayRefused file n p → jobResult s ≡ refused n p
+result-day {rule = rule} {file = file} {t = t} {n = n} {p = p} d r m =
+    let z : n ≡ 0 → ⊥ = λ e. omega (arith, m .refused) in
+    let b = rebuffered (replicate 255 0) (replicate 255 0) (m .means) z (m .room) in
+    rule-passed d r ∙ ap (afterDay rule (size t) (specials t)) (sym (day-answered.answer-is b)) ∙ simp (ne-eqb n 0 z)
+
+-- ---- the judge
+-- 01, The program: with the limit m × (n + 1) × (n + 2) the work is never above it
+pub limit-enough : (w : Word) (t : Tree) → fullCount w t ≤ limitOf (size t) (length w)
+limit-enough w t = omega (arith, full-bound w t)
+
+-- the judge accepts every job that comes to it
+pub judge-accepts : {rule : List ℕ} {t : Tree} {w : Word} → Passed rule t → LegalWord w
+    → judgeAnswer rule w (limitOf (size t) (length w)) (replicate 8192 0) ≡ judge.acceptance t w (replicate 8192 0)
+judge-accepts {rule} {t} {w} p l =
+    let z = length-replicate {A = ℕ} 8192 0 in
+    let room : needOf (specials t) (length w) ≤ length {A = ℕ} (replicate 8192 0) = omega (arith, need-most (specials t) (length w) (p .special) (l .fits)) in
+    sym (to-limit rule w (limitOf (size t) (length w)) (replicate 8192 0) t p l room)
+    ∙ at-acceptance t w (limitOf (size t) (length w)) (replicate 8192 0) (limit-enough w t)
+
+-- what is left of the judge's answer: found, count and the text
+after-acceptance : (w : Word) (t : Tree) (old : List ℕ)
+    → afterJudge (judge.acceptance t w old) (length w) (size t) (specials t) ≡ listed (heading w t) (block w t)
+after-acceptance w t old = ap (listed (heading w t)) (first-block w t (drop (needOf (specials t) (length w)) old))
+
+-- the judge's row, for a day that passes
+day-passed : {rule file : List ℕ} {t : Tree} {l : List DayEvent} → Passed rule t → Whole file l
+    → afterDay rule (size t) (specials t) (dayAnswer file (replicate 255 0) (replicate 255 0)) ≡ listed (heading (map letterOf l) t) (block (map letterOf l) t)
+day-passed {rule} {file} {t} {l} p h =
+    let w = map letterOf l in
+    let n = length-map l letterOf in
+    let a = day-answered.answer-is (day-meaning.accepted h (zeros-long (length l) (h .few)) (zeros-long (length l) (h .few))) in
+    let e : take (length l) (w ++ drop (length l) (replicate 255 0)) ≡ w = take-at w (drop (length l) (replicate 255 0)) (length l) n in
+    ap (afterDay rule (size t) (specials t)) (sym a)
+    ∙ ap₂ (λ (x : List ℕ) (k : ℕ). afterJudge (judgeAnswer rule x (limitOf (size t) k) (replicate 8192 0)) k (size t) (specials t)) e (sym n)
+    ∙ ap (λ (j : JudgeAnswer). afterJudge j (length w) (size t) (specials t)) (judge-accepts p (legal-word h))
+    ∙ after-acceptance w t (replicate 8192 0)
+
+pub result-judged : {s : List ℕ} {t : Tree} {w : Word} → Judged s t w → jobResult s ≡ listed (heading w t) (block w t)
+result-judged {t = t} j =
+    rule-passed (j .parted) (j .passed) ∙ day-passed (j .passed) (j .whole)
+    ∙ ap (λ (w : Word). listed (heading w t) (block w t)) (sym (j .word))
+
+-- ---- one of the rows holds of every job
+pub data Comes (s : List ℕ) : Type 0 where
+  no-line : ((rule file : List ℕ) → Parted s rule file → ⊥) → Comes s
+  at-rule : {rule file : List ℕ} {n p : ℕ} → Parted s rule file → RuleMeaning rule (reader.refusal n p) → Comes s
+  at-day : {rule file : List ℕ} {t : Tree} {n p : ℕ} → Parted s rule file → Passed rule t → DayRefused file n p → Comes s
+  at-judge : {t : Tree} {w : Word} → Judged s t w → Comes s
+
+comes-day : {s rule file : List ℕ} {t : Tree} → Parted s rule file → Passed rule t → Comes s
+comes-day {rule = rule} {file = file} d p =
+    let z : List ℕ = replicate 255 0 in
+    let a = dayAnswer file z z in
+    let m = day-answered.answer-means file z z in
+    ⊎-elim
+    (λ (e : a .number ≡ 0).
+    let g = day-accepting m e in
+    at-judge (record { rule = rule; file = file; parted = d; passed = p; events = g .events; whole = g .whole; word = refl }))
+    (λ (e : a .number ≡ 0 → ⊥).
+    at-day d p
+    (record {
+      refused = omega arith;
+      letters = z;
+      seconds = z;
+      room = (zeros-long 255 (omega arith), zeros-long 255 (omega arith));
+      means = rebuffered z z m e (zeros-long 255 (omega arith), zeros-long 255 (omega arith));
+    }))
+    (same-or-not (a .number) 0)
+
+comes-rule : {s rule file : List ℕ} → Parted s rule file → Comes s
+comes-rule {rule = rule} d =
+    let a = ruleAnswer rule in
+    let m = rule-answered.answer-means rule in
+    ⊎-elim (λ (e : a .number ≡ 0). comes-day d (accepting m e .passed))
+    (λ (e : a .number ≡ 0 → ⊥). at-rule d (subst (RuleMeaning rule) (refusing m e) m))
+    (same-or-not (a .number) 0)
+
+pub comes : (s : List ℕ) → Comes s
+comes s = either (isJob s) refl
+  where
+    either : (b : Bool) → isJob s ≡ b → Comes s
+    either true e = comes-rule (parted-job s e)
+    either false e = no-line (λ rule file p. true≢false (sym (parted-is-job p) ∙ e))

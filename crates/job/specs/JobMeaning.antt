@@ -1,0 +1,73 @@
+-- What the answer to a job says, by the form of its first line, the grammar, the lines of the day, the language and the collection of
+-- reached places. Assumes nothing.
+-- That `jobAnswer` is the one answer which says so is `answer-means` in proofs/Answered and `answer-is` in proofs/Determined.
+use Prim.Native.Nat.{ℕ, _≤_, _<_}
+use mathlib.Core.Path.{_≡_}
+use mathlib.Core.Logic.{_↔_}
+use mathlib.Core.List.{List, _∷_, _++_, map, List·Memᴰ}
+use lib.ListN.{length, getD}
+use Rattle.event.specs.Event.{Word}
+use Rattle.regex.specs.Tree.{Tree, size, specials}
+use Rattle.rule.specs.RuleAnswer as reader
+use Rattle.rule.specs.RuleMeaning.{RuleMeaning}
+use Rattle.day.specs.DayFile.{DayEvent, letterOf}
+use Rattle.day.specs.DayAnswer as day
+use Rattle.day.specs.DayMeaning.{DayMeaning, Whole}
+use Rattle.work.specs.Span.{Obeys}
+use Rattle.work.specs.Spans.{Spans, InOrder}
+use Rattle.work.specs.SizeOf.{SizeOf}
+use Rattle.work.specs.Walk.{Collection}
+use Rattle.judge.specs.JudgeMeaning.{Passed}
+use Rattle.listing.specs.Lines.{headLine, spanLines}
+use Rattle.job.specs.JobAnswer.{JobAnswer, refusal, acceptance}
+
+-- 01: "A job is one line `R`, tab, rule, newline, and then the day."; the line ends at its first newline
+pub record Parted (s rule file : List ℕ) : Type 0 where
+  pub text : s ≡ 82 ∷ 9 ∷ rule ++ 10 ∷ file
+  pub line : (i : ℕ) → i < length rule → getD rule i 0 ≡ 10 → ⊥
+
+-- 01: the day file's row, in which 15 does not come: no buffer is shorter than a day may be
+pub record DayRefused (file : List ℕ) (number place : ℕ) : Type 0 where
+  pub refused : 1 ≤ number
+  pub letters : List ℕ
+  pub seconds : List ℕ
+  pub room : (255 ≤ length letters) × (255 ≤ length seconds)
+  pub means : DayMeaning file letters seconds (day.refusal number place letters seconds)
+
+-- the rule and the day pass their rows: the grammar reads the rule as t, and w is the day's events
+pub record Judged (s : List ℕ) (t : Tree) (w : Word) : Type 0 where
+  pub rule : List ℕ
+  pub file : List ℕ
+  pub parted : Parted s rule file
+  pub passed : Passed rule t
+  pub events : List DayEvent
+  pub whole : Whole file events
+  pub word : w ≡ map letterOf events
+
+-- 01, The program: the text lists exactly the spans that obey, "by rising i and then rising j"; found is their number, and the count is the
+-- size of the collection
+pub record Lists (w : Word) (t : Tree) (found count : ℕ) (text : List ℕ) : Type 0 where
+  pub spans : Spans
+  pub order : InOrder spans
+  pub each : (p : ℕ × ℕ) → List·Memᴰ p spans ↔ Obeys w t (p .0) (p .1)
+  pub found-is : found ≡ length spans
+  pub count-is : SizeOf (Collection w t) count
+  pub text-is : text ≡ headLine (record { n = length w; m = size t; k = specials t; found = found; count = count }) ++ spanLines spans
+
+-- one constructor for each row, and for the text: what holds of the job s and of the buffer at entry, and the whole answer.
+-- None has 7, 8, 9 or 10.
+pub data JobMeaning (s old : List ℕ) : JobAnswer → Type 0 where
+  -- "16: not `R`, tab, then bytes up to a newline"
+  no-rule-line : ((rule file : List ℕ) → Parted s rule file → ⊥) → JobMeaning s old (refusal 16 0 old)
+  -- 1 to 6: the rule text's row
+  rule-refused : {rule file : List ℕ} {n p : ℕ} → Parted s rule file → RuleMeaning rule (reader.refusal n p)
+      → JobMeaning s old (refusal n p old)
+  -- 11 to 14: the day file's row
+  day-refused : {rule file : List ℕ} {t : Tree} {n p : ℕ} → Parted s rule file → Passed rule t → DayRefused file n p
+      → JobMeaning s old (refusal n p old)
+  -- 15, last: the buffer is shorter than the text
+  short-buffer : {t : Tree} {w : Word} {f c : ℕ} {text : List ℕ} → Judged s t w → Lists w t f c text → length old < length text
+      → JobMeaning s old (refusal 15 0 old)
+  -- accepted
+  accepted : {t : Tree} {w : Word} {f c : ℕ} {text : List ℕ} → Judged s t w → Lists w t f c text → length text ≤ length old
+      → JobMeaning s old (acceptance f c text old)

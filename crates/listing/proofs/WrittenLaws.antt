@@ -1,0 +1,118 @@
+-- Laws of texts written into a buffer: one behind another, and at its front. Assumes nothing.
+use Prim.Native.Nat.{ℕ, zero, suc, _+_, _-_, _≤_, _<_}
+use native.Mathlib.Omega.{arith}
+use native.Mathlib.Numerals.{add-one}
+use mathlib.Core.Path.{_≡_, refl, sym, ap, ap₂, _∙_, subst}
+use mathlib.Core.List.{List, [], _∷_, _++_, append-assoc}
+use lib.ListN.{length, getD, take, drop, set, replicate, length-append, length-replicate}
+use lib.Seq.{sets, sets-eq, length-sets, take-suc, take-at}
+use Rattle.decimal.specs.Decimal.{decimal}
+use Rattle.listing.specs.declared.Heading.{Heading}
+use Rattle.listing.specs.Lines.{field, fields, line, headLine, refusalLine}
+use Rattle.listing.specs.Written.{Written}
+use Rattle.decimal.proofs.NumeralLaws.{decimal-length}
+
+sets-append : (l : List ℕ) (i : ℕ) (s t : List ℕ) → sets l i (s ++ t) ≡ sets (sets l i s) (i + length s) t
+sets-append l i [] t = let e : i ≡ i + 0 = omega arith in ap (λ (k : ℕ). sets l k t) e
+sets-append l i (x ∷ s) t =
+    let e : suc i + length s ≡ i + suc (length s) = omega arith in
+    sets-append (set l i x) (suc i) s t ∙ ap (λ (k : ℕ). sets (sets (set l i x) (suc i) s) k t) e
+
+pub written-none : (old : List ℕ) (at : ℕ) → Written old at [] old at
+written-none old at = record { bytes = refl; upto = omega arith }
+
+pub written-then : {old mid new s t : List ℕ} {at m e : ℕ} → Written old at s mid m → Written mid m t new e → Written old at (s ++ t) new e
+written-then {old} {mid} {new} {s} {t} {at} f g = record {
+  bytes = g .bytes ∙ ap₂ (λ (l : List ℕ) (k : ℕ). sets l k t) (f .bytes) (f .upto) ∙ sym (sets-append old at s t);
+  upto = omega (arith, g .upto, f .upto, length-append s t);
+}
+
+pub written-as : {old s t new : List ℕ} {at e : ℕ} → s ≡ t → Written old at s new e → Written old at t new e
+written-as {old} {new = new} {at} {e} f w = subst (λ (r : List ℕ). Written old at r new e) f w
+
+-- a buffer keeps its length
+pub written-long : {old s new : List ℕ} {at e : ℕ} → Written old at s new e → length new ≡ length old
+written-long {old} {s} {new} {at} w = ap length (w .bytes) ∙ length-sets old at s
+
+-- at the front of a buffer
+pub written-front : {old s new : List ℕ} {e : ℕ} → Written old 0 s new e → length s ≤ length old → new ≡ s ++ drop (length s) old
+written-front {old} {s} w h =
+    let z : 0 + length s ≡ length s = omega arith in
+    w .bytes ∙ sets-eq s old 0 (omega arith) ∙ ap (λ (k : ℕ). s ++ drop k old) z
+
+-- one element more of a list that is being written
+pub written-more : {old new : List ℕ} {at : ℕ} (s : List ℕ) (i : ℕ) → i < length s → Written old at (take i s) new (at + i)
+    → Written old at (take (i + 1) s) (set new (at + i) (getD s i 0)) (at + (i + 1))
+written-more {old} {new} {at} s i h w =
+    let one : Written new (at + i) (getD s i 0 ∷ []) (set new (at + i) (getD s i 0)) (at + i + 1) = record { bytes = refl; upto = omega arith } in
+    let both = written-then w one in
+    let e : at + (i + 1) ≡ at + i + 1 = omega arith in
+    rw (e, add-one, take-suc s i 0 h) both
+
+-- ---- rows of zeros
+abbrev pub zeros : ℕ → List ℕ
+zeros n = replicate n 0
+
+pub drop-zeros : (n m : ℕ) → drop n (zeros m) ≡ zeros (m - n)
+drop-zeros zero m = let e : m ≡ m - 0 = omega arith in ap zeros e
+drop-zeros (suc n) zero = let e : 0 ≡ 0 - suc n = omega arith in ap zeros e
+drop-zeros (suc n) (suc m) = let e : m - n ≡ suc m - suc n = omega arith in drop-zeros n m ∙ ap zeros e
+
+-- ---- a number's digits, with zeros behind them
+module _ {bytes : List ℕ} {len : ℕ} (x : ℕ)
+    (digits : (bytes ≡ decimal x ++ replicate (20 - length (decimal x)) 0) × (len ≡ length (decimal x))) where
+  pub digits-text : take len bytes ≡ decimal x
+  digits-text = ap (take len) (digits .0) ∙ take-at (decimal x) (zeros (20 - length (decimal x))) len (sym (digits .1))
+
+  pub digits-many : length bytes ≡ 20
+  digits-many =
+      let e = decimal-length x in
+      ap length (digits .0) ∙ length-append (decimal x) (zeros (20 - length (decimal x)))
+      ∙ omega (arith, length-replicate {A = ℕ} (20 - length (decimal x)) 0)
+
+-- ---- a line, field by field
+pub fields-length : (x : ℕ) (l : List ℕ) → length (fields (x ∷ l)) ≡ length (field x) + length (fields l)
+fields-length x l = length-append (field x) (fields l)
+
+pub refusal-short : (number place : ℕ) → length (refusalLine number place) ≤ 44
+refusal-short number place =
+    omega (arith, fields-length number (place ∷ []), fields-length place [], decimal-length number, decimal-length place)
+
+pub head-length : (h : Heading) → length (headLine h)
+    ≡ 2 + length (field (h .n)) + length (field (h .m)) + length (field (h .k)) + length (field (h .found)) + length (field (h .count))
+head-length h =
+    let last = h .count ∷ [] in
+    let e = fields-length (h .n) (h .m ∷ h .k ∷ h .found ∷ last) in
+    let f = fields-length (h .m) (h .k ∷ h .found ∷ last) in
+    omega (arith, e, f, fields-length (h .k) (h .found ∷ last), fields-length (h .found) last, fields-length (h .count) [])
+
+-- what is written is the line `whole` but for the fields l and the newline
+pub record Begun (old : List ℕ) (at : ℕ) (whole l mid : List ℕ) (m : ℕ) : Type 0 where
+  pub done : List ℕ
+  pub written : Written old at done mid m
+  pub onward : done ++ fields l ≡ whole
+
+pub begun : {old mid : List ℕ} {at m c : ℕ} (l : List ℕ) → Written old at (c ∷ []) mid m → Begun old at (line c l) l mid m
+begun {c = c} l w = record { done = c ∷ []; written = w; onward = refl }
+
+module _ {old whole mid : List ℕ} {at m : ℕ} where
+  left-length : {l : List ℕ} (b : Begun old at whole l mid m) → at + length whole ≤ length old → m + length (fields l) ≤ length mid
+  left-length {l} b h =
+      let e = ap length (b .onward) in
+      omega (arith, e, length-append (b .done) (fields l), b .written .upto, written-long (b .written))
+
+  pub field-fits : {x : ℕ} {l : List ℕ} → Begun old at whole (x ∷ l) mid m → at + length whole ≤ length old → m + length (field x) ≤ length mid
+  field-fits {x} {l} b h = omega (arith, left-length b h, fields-length x l)
+
+  pub newline-fits : Begun old at whole [] mid m → at + length whole ≤ length old → m < length mid
+  newline-fits b h = omega (arith, left-length b h)
+
+  pub begun-field : {x n : ℕ} {l new : List ℕ} → Begun old at whole (x ∷ l) mid m → Written mid m (field x) new n → Begun old at whole l new n
+  begun-field {x} {l = l} b w = record {
+    done = b .done ++ field x;
+    written = written-then (b .written) w;
+    onward = append-assoc (b .done) (field x) (fields l) ∙ b .onward;
+  }
+
+  pub begun-newline : {new : List ℕ} {n : ℕ} → Begun old at whole [] mid m → Written mid m (10 ∷ []) new n → Written old at whole new n
+  begun-newline b w = written-as (b .onward) (written-then (b .written) w)

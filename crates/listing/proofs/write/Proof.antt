@@ -1,0 +1,24 @@
+-- `write` writes the heading and then the lines of the block. Assumes nothing.
+use borrow.Author.Needs.{needs}
+use native.Mathlib.Omega.{arith}
+use Rattle.listing.specs.Marked.{listing}
+use Rattle.listing.proofs.WrittenLaws.{written-then, written-long, written-front}
+use Rattle.listing.proofs.SpanLines.{listing-length}
+use Rattle.listing.proofs.write.Statement.{statement}
+use Rattle.listing.proofs.write.Tie as tie
+
+pub write-spec : {M : Type 1} → statement M
+unfolding listing
+write-spec =
+    tie.close (tie.spec
+    (λ c κs.
+    let s = c .before .before .before in
+    omega (arith, s .pre .1, listing-length (s .args .heading) (s .args .block .now)))
+    (λ c κs.
+    let s = c .before .before .before .before .before .before .before in
+    let w = c .before .before .before .put-heading .ensures in
+    (s .pre .0, omega (arith, s .pre .1, w .upto, written-long w, listing-length (s .args .heading) (s .args .block .now))))
+    (λ c. search needs)
+    (λ c.
+    let s = c .before .before .before .before .before .before .before .before .before .before in
+    written-front (written-then (c .before .before .before .before .before .before .put-heading .ensures) (c .before .before .write-spans .ensures)) (s .pre .1)))

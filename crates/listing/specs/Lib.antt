@@ -1,0 +1,4 @@
+-- The program's output.
+pub mod Lines
+pub mod Marked
+pub mod Written

@@ -1,0 +1,83 @@
+// The program's output: the listing of the spans that a block marks, and the line of a refusal.
+mod fields;
+mod spans;
+
+use crate::fields::field_length;
+use crate::fields::put_byte;
+use crate::fields::put_field;
+use crate::fields::put_line;
+use crate::spans::spans_length;
+use crate::spans::write_spans;
+ghost use mathlib.Core.Path.{_≡_};
+ghost use mathlib.Core.List.{_++_};
+ghost use Prim.Native.Nat.{_-_, _≤_};
+ghost use lib.ListN.{length, drop, replicate};
+ghost use Rattle.listing.specs.Lines.{headLine, refusalLine};
+ghost use Rattle.listing.specs.Marked.{listing};
+ghost use Rattle.listing.specs.Written.{Written};
+
+// The fields of the `H` line.
+pub struct Heading {
+    pub n: u64,
+    pub m: u64,
+    pub k: u64,
+    pub found: u64,
+    pub count: u64,
+}
+
+// A line: the first `len` of the bytes; the others are 0.
+pub struct Line {
+    pub bytes: [u8; 44],
+    pub len: usize,
+}
+
+// The line that tells a refusal.
+pub fn refusal(number: u64, place: u64) -> Line
+    ensures { λ r. ⌜ (r .bytes ≡ refusalLine number place ++ replicate (44 - length (refusalLine number place)) 0)
+        × (r .len ≡ length (refusalLine number place)) ⌝ }
+{
+    let mut bytes = [0u8; 44];
+    let len = put_line(&mut bytes, 0, b'X', number, place);
+    Line {
+        bytes: bytes,
+        len: len,
+    }
+}
+
+// The length of a listing; the bound of the block, which is the largest block's, keeps the sum far below 64 bits.
+pub fn length(heading: Heading, block: &[u64]) -> usize
+    requires { ⌜ length (now block) ≤ 1024 ⌝ }
+    ensures { λ r. ⌜ r ≡ length (listing heading (now (block .entry))) ⌝ }
+{
+    let n = field_length(heading.n);
+    let m = field_length(heading.m);
+    let k = field_length(heading.k);
+    let found = field_length(heading.found);
+    let count = field_length(heading.count);
+    2 + n + m + k + found + count + spans_length(block)
+}
+
+// Writes the `H` line to the front of a buffer; the answer is the offset behind it.
+fn put_heading(out: &mut [u8], heading: Heading) -> usize
+    requires { ⌜ length (headLine heading) ≤ length (now out) ⌝ }
+    ensures { λ r. ⌜ Written (now (out .entry)) 0 (headLine heading) (now (out .exit)) r ⌝ }
+{
+    let letter = put_byte(out, 0, b'H');
+    let n = put_field(out, letter, heading.n);
+    let m = put_field(out, n, heading.m);
+    let k = put_field(out, m, heading.k);
+    let found = put_field(out, k, heading.found);
+    let count = put_field(out, found, heading.count);
+    put_byte(out, count, b'\n')
+}
+
+// Writes a listing to the front of a buffer, and leaves the rest.
+pub fn write(heading: Heading, block: &[u64], out: &mut [u8])
+    requires { ⌜ length (now block) ≤ 1024 ⌝ }
+    requires { ⌜ length (listing heading (now block)) ≤ length (now out) ⌝ }
+    ensures { λ _. ⌜ now (out .exit)
+        ≡ listing heading (now (block .entry)) ++ drop (length (listing heading (now (block .entry)))) (now (out .entry)) ⌝ }
+{
+    let head = put_heading(out, heading);
+    write_spans(block, out, head);
+}
