@@ -1,24 +1,22 @@
 -- The answer to a job means what it says, by the grammar, the lines of the day, the language and the collection. Assumes nothing.
 use Prim.Native.Nat.{ℕ, _≤_, _<_}
 use native.Mathlib.Omega.{arith}
-use mathlib.Core.Path.{_≡_, refl, sym, ap, subst, _∙_}
+use mathlib.Core.Path.{_≡_, sym, ap, subst}
 use mathlib.Core.Logic.{⊎-elim}
-use mathlib.Core.List.{List, map}
+use mathlib.Core.List.{List}
 use lib.ListN.{length, length-map}
 use borrow.Author.Tests.{lt-ltb, le-ltb}
 use Rattle.bits.proofs.Digits.{below-or-not}
 use Rattle.event.specs.Event.{Word}
 use Rattle.regex.specs.Tree.{Tree}
-use Rattle.rule.specs.RuleAnswer as reader
-use Rattle.rule.specs.RuleMeaning.{RuleMeaning}
-use Rattle.rule.proofs.Answered as rule-answered
 use Rattle.day.specs.DayFile.{letterOf}
 use Rattle.work.specs.Count.{fullCount}
-use Rattle.work.specs.Table.{block, found}
-use Rattle.job.specs.JobAnswer.{JobResult, refused, listed, JobAnswer, refusal, acceptance, written, jobResult, jobAnswer}
-use Rattle.job.specs.JobMeaning.{Parted, DayRefused, Judged, JobMeaning, no-rule-line, rule-refused, day-refused, short-buffer, accepted}
-use Rattle.job.proofs.Listed.{heading, text, lists-text}
-use Rattle.job.proofs.Rows.{result-none, result-rule, result-day, result-judged, refusal-number, Comes, no-line, at-rule, at-day, at-judge, comes}
+use Rattle.work.specs.Table.{found}
+use Rattle.job.specs.JobAnswer.{refused, JobAnswer, refusal, acceptance, jobResult, jobAnswer}
+use Rattle.job.specs.JobMeaning.{Judged, JobMeaning, no-rule-line, rule-refused, day-refused, short-buffer, accepted}
+use Rattle.job.proofs.Listed.{text, lists-text}
+use Rattle.job.proofs.Rows.{result-none, result-rule, result-day, result-judged, refusal-number}
+use Rattle.job.proofs.Rows.{Comes, no-line, at-rule, at-day, at-judge, comes}
 use Rattle.job.proofs.Steps.{refused-written}
 
 -- the events of a day that passes are few

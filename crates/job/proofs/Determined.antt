@@ -1,13 +1,9 @@
 -- No answer but `jobAnswer` means what `JobMeaning` asks. Assumes nothing.
 use Prim.Native.Nat.{ℕ, _≤_, _<_}
 use native.Mathlib.Omega.{arith}
-use mathlib.Core.Path.{_≡_, sym, ap, ap₂, subst, _∙_}
+use mathlib.Core.Path.{_≡_, ap, ap₂, subst, _∙_}
 use mathlib.Core.List.{List}
 use lib.ListN.{length}
-use Rattle.event.specs.Event.{Word}
-use Rattle.regex.specs.Tree.{Tree}
-use Rattle.work.specs.Count.{fullCount}
-use Rattle.work.specs.Table.{found}
 use Rattle.job.specs.JobAnswer.{JobAnswer, acceptance, jobAnswer}
 use Rattle.job.specs.JobMeaning.{JobMeaning, no-rule-line, rule-refused, day-refused, short-buffer, accepted}
 use Rattle.job.proofs.Answered.{judged-short, at-refusal, at-short, at-text}

@@ -1,17 +1,17 @@
 -- The job's first line: which texts have one, and how it parts them. Assumes nothing.
 use Prim.Native.Nat.{ℕ, suc, _+_, _-_, _≤_, _<_}
 use native.Mathlib.Omega.{arith}
-use mathlib.Core.Path.{_≡_, refl, sym, ap, ap₂, subst, _∙_}
+use mathlib.Core.Path.{_≡_, refl, sym, ap, _∙_}
 use mathlib.Core.Bool.{Bool, true, false, cond, not, _&&_}
 use mathlib.Core.Logic.{⊎-elim}
-use mathlib.Core.List.{List, [], _∷_, _++_}
+use mathlib.Core.List.{List}
 use lib.Dec.{eqb, ltb}
 use lib.ListN.{length, getD, take, drop, length-drop, List·getD-eq-default}
 use lib.Seq.{drop-drop}
 use borrow.Author.Tests.{eq-eqb, ne-eqb, lt-ltb, le-ltb, ltb-true}
 use Rattle.bits.proofs.Digits.{below-or-not}
 use Rattle.event.specs.Leading.{leading}
-use Rattle.event.proofs.LeadingLaws.{Leads, leading-found}
+use Rattle.event.proofs.LeadingLaws.{leading-found}
 use Rattle.event.proofs.Tails.{tail, tail-is}
 use Rattle.event.proofs.Tests.{T-of, of-T, and-split}
 use Rattle.rule.specs.RuleAnswer.{ruleAnswer}

@@ -7,3 +7,4 @@ pub mod Listed
 mod Rows
 pub mod Answered
 pub mod Determined
+pub mod Results

@@ -1,8 +1,7 @@
 -- The listing of the first block lists exactly the spans that obey, and no other text does. Assumes nothing.
 use Prim.Native.Nat.{ℕ, _+_, _*_, _/_, _%_, _≤_, _<_}
 use native.Mathlib.Omega.{arith}
-use mathlib.Core.Path.{_≡_, refl, sym, ap, ap₂, subst, _∙_}
-use mathlib.Core.Bool.{Bool, true}
+use mathlib.Core.Path.{_≡_, sym, ap, ap₂, _∙_}
 use mathlib.Core.List.{List, _++_, append-assoc, List·Memᴰ}
 use lib.ListN.{length, take}
 use lib.Seq.{take-at}
@@ -13,7 +12,7 @@ use Rattle.regex.specs.Tree.{Tree, size, specials}
 use Rattle.work.specs.Count.{fullCount}
 use Rattle.work.specs.Span.{Obeys}
 use Rattle.work.specs.Spans.{Spans, obeying}
-use Rattle.work.specs.Table.{obeys, position, startOf, endOf, block, blocks, blockLength, specialParts, table, found}
+use Rattle.work.specs.Table.{obeys, position, block, blocks, blockLength, specialParts, table, found}
 use Rattle.work.specs.Walk.{Collection}
 use Rattle.work.proofs.Found.{found-listed}
 use Rattle.work.proofs.Listed.{listed, listed-order}
@@ -71,7 +70,7 @@ module _ (w : Word) (t : Tree) (short : length w ≤ 255) where
         λ m. obey-marks p (listed w t (p .0) (p .1) .0 m),
       ))
 
-  text-obeying : text w t ≡ headLine (heading w t) ++ spanLines (obeying w t)
+  pub text-obeying : text w t ≡ headLine (heading w t) ++ spanLines (obeying w t)
   unfolding listing
   text-obeying = ap (λ (l : Spans). headLine (heading w t) ++ spanLines l) listed-marked
 

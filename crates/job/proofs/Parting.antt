@@ -1,15 +1,15 @@
 -- A text has a rule's line in front exactly if it is a job, and is parted in one way. Assumes nothing.
-use Prim.Native.Nat.{ℕ, suc, _+_, _≤_, _<_}
+use Prim.Native.Nat.{ℕ, suc, _+_, _<_}
 use native.Mathlib.Omega.{arith}
-use mathlib.Core.Path.{_≡_, refl, sym, ap, ap₂, subst, _∙_}
+use mathlib.Core.Path.{_≡_, refl, sym, ap, ap₂, _∙_}
 use mathlib.Core.Bool.{Bool, true, false, not, _&&_, true≢false}
-use mathlib.Core.List.{List, [], _∷_, _++_}
+use mathlib.Core.List.{List, _∷_, _++_}
 use lib.Dec.{eqb, ltb}
 use lib.ListN.{length, getD, take, drop, length-drop, length-append, List·getD-append}
 use lib.Seq.{length-take-le, getD-take, getD-append-add, take-at, drop-append-add, split-at}
-use borrow.Author.Tests.{eq-eqb, ne-eqb, lt-ltb, ltb-true, eqb-true, eqb-false}
+use borrow.Author.Tests.{eq-eqb, ne-eqb, lt-ltb, ltb-true, eqb-true}
 use Rattle.event.specs.Leading.{leading}
-use Rattle.event.proofs.LeadingLaws.{Leads, leading-found, leading-is}
+use Rattle.event.proofs.LeadingLaws.{leading-found, leading-is}
 use Rattle.event.proofs.Tails.{rest-at}
 use Rattle.event.proofs.Tests.{T-of, of-T, and-split}
 use Rattle.job.specs.JobAnswer.{notNewline, ruleLength, isJob, ruleOf, dayOf}
@@ -45,8 +45,11 @@ module _ (s : List ℕ) (j : isJob s ≡ true) where
   shape : (getD s 0 0 ≡ 82) × (getD s 1 0 ≡ 9) × (n < length rest)
   shape =
       let h = and-split (tag s && tab s) (ended s) (T-of (isJob s) j) in
-      let g = and-split (tag s) (tab s) (h .0) in
-      (eqb-true (getD s 0 0) 82 (of-T (tag s) (g .0)), eqb-true (getD s 1 0) 9 (of-T (tab s) (g .1)), ltb-true n (length rest) (of-T (ended s) (h .1)))
+      let g = and-split (tag s) (tab s) (h .0) in (
+        eqb-true (getD s 0 0) 82 (of-T (tag s) (g .0)),
+        eqb-true (getD s 1 0) 9 (of-T (tab s) (g .1)),
+        ltb-true n (length rest) (of-T (ended s) (h .1)),
+      )
 
   -- the text behind the two first bytes
   behind : rest ≡ ruleOf s ++ 10 ∷ dayOf s
@@ -60,7 +63,8 @@ module _ (s : List ℕ) (j : isJob s ≡ true) where
     text =
         let h = shape in
         let l = length-drop 2 s in
-        rest-at s 0 (omega arith) ∙ ap₂ (λ (b : ℕ) (t : List ℕ). b ∷ t) (h .0) (rest-at s 1 (omega arith) ∙ ap₂ (λ (b : ℕ) (t : List ℕ). b ∷ t) (h .1) behind);
+        let e = rest-at s 1 (omega arith) ∙ ap₂ (λ (b : ℕ) (t : List ℕ). b ∷ t) (h .1) behind in
+        rest-at s 0 (omega arith) ∙ ap₂ (λ (b : ℕ) (t : List ℕ). b ∷ t) (h .0) e;
     line = λ i h e.
         let l = length-take-le n rest (leading-found notNewline rest .within) in
         let k : i < n = omega arith in

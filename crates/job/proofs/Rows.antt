@@ -1,14 +1,13 @@
 -- What a job comes to, row by row, by what its texts mean. Assumes nothing.
-use Prim.Native.Nat.{ℕ, _+_, _*_, _≤_, _<_}
+use Prim.Native.Nat.{ℕ, _+_, _≤_}
 use native.Mathlib.Omega.{arith}
 use mathlib.Core.Path.{_≡_, refl, sym, ap, ap₂, subst, _∙_}
 use mathlib.Core.Bool.{Bool, true, false, true≢false}
 use mathlib.Core.Logic.{⊎-elim}
-use mathlib.Core.List.{List, [], _∷_, _++_, map}
-use lib.Dec.{eqb}
+use mathlib.Core.List.{List, _++_, map}
 use lib.ListN.{length, take, drop, replicate, length-replicate, length-map}
 use lib.Seq.{take-at}
-use borrow.Author.Tests.{eq-eqb, ne-eqb, le-ltb}
+use borrow.Author.Tests.{ne-eqb}
 use Rattle.bits.proofs.Digits.{same-or-not}
 use Rattle.event.specs.Event.{Word}
 use Rattle.regex.specs.Tree.{Tree, size, specials}
@@ -17,25 +16,23 @@ use Rattle.rule.specs.RuleAnswer.{RuleAnswer, ruleAnswer}
 use Rattle.rule.specs.RuleMeaning.{RuleMeaning, empty-text, long-text, foreign-byte, no-sentence, many-nodes, many-specials}
 use Rattle.rule.specs.RuleMeaning as rule-meaning
 use Rattle.rule.proofs.Answered as rule-answered
-use Rattle.day.specs.DayFile.{DayEvent, letterOf, secondOf}
-use Rattle.day.specs.DayAnswer as day
-use Rattle.day.specs.DayAnswer.{DayAnswer, dayAnswer}
+use Rattle.day.specs.DayFile.{DayEvent, letterOf}
+use Rattle.day.specs.DayAnswer.{dayAnswer}
 use Rattle.day.specs.DayMeaning.{DayMeaning, Whole}
 use Rattle.day.specs.DayMeaning as day-meaning
 use Rattle.day.proofs.Answered as day-answered
 use Rattle.work.specs.Count.{fullCount}
-use Rattle.work.specs.Table.{needOf, table, found, block, blockLength}
+use Rattle.work.specs.Table.{needOf, found, block}
 use Rattle.work.proofs.WorkBound.{full-bound}
 use Rattle.judge.specs.JudgeAnswer as judge
 use Rattle.judge.specs.JudgeAnswer.{JudgeAnswer, judgeAnswer}
 use Rattle.judge.specs.JudgeMeaning.{Passed, LegalWord}
 use Rattle.judge.proofs.Determined.{to-limit}
-use Rattle.judge.proofs.Joined.{Accepting, accepting, refusing, passes}
+use Rattle.judge.proofs.Joined.{accepting, refusing, passes}
 use Rattle.judge.proofs.Tested.{need-most, at-acceptance}
-use Rattle.listing.specs.Marked.{listing}
-use Rattle.job.specs.JobAnswer.{JobResult, refused, listed, limitOf, afterJudge, afterDay, afterRule, isJob, ruleOf, dayOf, jobResult}
+use Rattle.job.specs.JobAnswer.{refused, listed, limitOf, afterJudge, afterDay, afterRule, isJob, ruleOf, dayOf, jobResult}
 use Rattle.job.specs.JobMeaning.{Parted, DayRefused, Judged}
-use Rattle.job.proofs.Days.{DayAccepting, day-accepting, rebuffered, legal-word}
+use Rattle.job.proofs.Days.{day-accepting, rebuffered, legal-word}
 use Rattle.job.proofs.Listed.{first-block, heading}
 use Rattle.job.proofs.Parting.{parted-job, parted-is-job, parted-rule, parted-day}
 
@@ -80,7 +77,8 @@ rule-passed {rule = rule} {file = file} d p = parted-result d ∙ ap (afterRule 
 zeros-long : (n : ℕ) → n ≤ 255 → n ≤ length {A = ℕ} (replicate 255 0)
 zeros-long n h = omega (arith, length-replicate {A = ℕ} 255 0)
 
-pub result-day : {s rule file : List ℕ} {t : Tree} {n p : ℕ} → Parted s rule file → Passed rule t → DayRefused file n p → jobResult s ≡ refused n p
+pub result-day : {s rule file : List ℕ} {t : Tree} {n p : ℕ} → Parted s rule file → Passed rule t → DayRefused file n p
+    → jobResult s ≡ refused n p
 result-day {rule = rule} {file = file} {t = t} {n = n} {p = p} d r m =
     let z : n ≡ 0 → ⊥ = λ e. omega (arith, m .refused) in
     let b = rebuffered (replicate 255 0) (replicate 255 0) (m .means) z (m .room) in
@@ -96,7 +94,8 @@ pub judge-accepts : {rule : List ℕ} {t : Tree} {w : Word} → Passed rule t �
     → judgeAnswer rule w (limitOf (size t) (length w)) (replicate 8192 0) ≡ judge.acceptance t w (replicate 8192 0)
 judge-accepts {rule} {t} {w} p l =
     let z = length-replicate {A = ℕ} 8192 0 in
-    let room : needOf (specials t) (length w) ≤ length {A = ℕ} (replicate 8192 0) = omega (arith, need-most (specials t) (length w) (p .special) (l .fits)) in
+    let m = need-most (specials t) (length w) (p .special) (l .fits) in
+    let room : needOf (specials t) (length w) ≤ length {A = ℕ} (replicate 8192 0) = omega arith in
     sym (to-limit rule w (limitOf (size t) (length w)) (replicate 8192 0) t p l room)
     ∙ at-acceptance t w (limitOf (size t) (length w)) (replicate 8192 0) (limit-enough w t)
 
@@ -107,7 +106,8 @@ after-acceptance w t old = ap (listed (heading w t)) (first-block w t (drop (nee
 
 -- the judge's row, for a day that passes
 day-passed : {rule file : List ℕ} {t : Tree} {l : List DayEvent} → Passed rule t → Whole file l
-    → afterDay rule (size t) (specials t) (dayAnswer file (replicate 255 0) (replicate 255 0)) ≡ listed (heading (map letterOf l) t) (block (map letterOf l) t)
+    → afterDay rule (size t) (specials t) (dayAnswer file (replicate 255 0) (replicate 255 0))
+    ≡ listed (heading (map letterOf l) t) (block (map letterOf l) t)
 day-passed {rule} {file} {t} {l} p h =
     let w = map letterOf l in
     let n = length-map l letterOf in

@@ -1,15 +1,13 @@
 -- What the outcome of each row comes to in the job's answer. Assumes nothing.
 use Prim.Native.Nat.{ℕ, _≤_, _<_}
 use native.Mathlib.Omega.{arith}
-use mathlib.Core.Path.{_≡_, refl, sym, ap, ap₂, subst, _∙_}
-use mathlib.Core.Bool.{cond}
-use mathlib.Core.List.{List, [], _∷_, _++_}
-use lib.Dec.{eqb, ltb}
-use lib.ListN.{length, take, drop, replicate}
+use mathlib.Core.Path.{_≡_, sym, ap, ap₂, _∙_}
+use mathlib.Core.List.{List, [], _∷_}
+use lib.ListN.{length, take, replicate}
 use lib.Seq.{length-take-le}
 use types.Run.{OneOf, miss}
 use denote.Enum.Declared.{tagOf}
-use borrow.Author.Tests.{eq-eqb, ne-eqb, lt-ltb, le-ltb}
+use borrow.Author.Tests.{ne-eqb, lt-ltb, le-ltb}
 use Rattle.regex.specs.declared.Node.{Node}
 use Rattle.rule.specs.RuleAnswer as rule
 use Rattle.rule.specs.RuleAnswer.{RuleAnswer, ruleAnswer, ruleValues}
@@ -34,8 +32,9 @@ use Rattle.listing.specs.declared.Heading.{Heading}
 use Rattle.listing.specs.Marked.{listing}
 use Rattle.verdict.specs.declared.Verdict.{Verdict}
 use Rattle.verdict.specs.Says.{Says}
+use Rattle.verdict.proofs.VerdictLaws.{rule-beside, day-beside, judge-beside}
 use Rattle.work.specs.Table.{blockLength}
-use Rattle.job.specs.JobAnswer.{JobResult, refused, listed, limitOf, afterJudge, afterDay, afterRule, JobAnswer, refusal, acceptance, written}
+use Rattle.job.specs.JobAnswer.{JobResult, refused, listed, limitOf, afterJudge, afterDay, afterRule, refusal, acceptance, written}
 
 -- a refusal is no text
 pub refused-written : (r : JobResult) (n p : ℕ) (old : List ℕ) → r ≡ refused n p → (n ≡ 0 → ⊥) → refusal n p old ≡ written r old
@@ -51,27 +50,18 @@ rule-number (rule-outcome.NoSentence n) h = λ e. omega arith
 rule-number rule-outcome.ManyNodes h = λ e. omega arith
 rule-number rule-outcome.ManySpecials h = λ e. omega arith
 
-rule-same : (o : rule-type.Outcome) (ns : List Node)
-    → (ruleValues o [] .number ≡ ruleValues o ns .number) × (ruleValues o [] .place ≡ ruleValues o ns .place)
-rule-same (rule-outcome.Accepted m k) ns = (refl, refl)
-rule-same rule-outcome.EmptyText ns = (refl, refl)
-rule-same rule-outcome.LongText ns = (refl, refl)
-rule-same (rule-outcome.ForeignByte n) ns = (refl, refl)
-rule-same (rule-outcome.NoSentence n) ns = (refl, refl)
-rule-same rule-outcome.ManyNodes ns = (refl, refl)
-rule-same rule-outcome.ManySpecials ns = (refl, refl)
-
 -- the row refuses
 pub rule-stop : (s file old : List ℕ) (o : rule-type.Outcome) (ns : List Node) (v : Verdict) → ruleValues o ns ≡ ruleAnswer s
     → OneOf (1 ∷ 2 ∷ 3 ∷ 4 ∷ 5 ∷ 6 ∷ []) (tagOf rule-declared.the-type o)
     → Says v (ruleValues o [] .number) (ruleValues o [] .place) (ruleValues o [] .found) (ruleValues o [] .count)
     → refusal (v .number) (v .place) old ≡ written (afterRule s file (ruleAnswer s)) old
 rule-stop s file old o ns v e t w =
-    let a : v .number ≡ ruleAnswer s .number = w .number-is ∙ rule-same o ns .0 ∙ ap (λ (x : RuleAnswer). x .number) e in
-    let b : v .place ≡ ruleAnswer s .place = w .place-is ∙ rule-same o ns .1 ∙ ap (λ (x : RuleAnswer). x .place) e in
+    let a : v .number ≡ ruleAnswer s .number = w .number-is ∙ ap (λ (x : RuleAnswer). x .number) (rule-beside o ns ∙ e) in
+    let b : v .place ≡ ruleAnswer s .place = w .place-is ∙ ap (λ (x : RuleAnswer). x .place) (rule-beside o ns ∙ e) in
     let h : ruleAnswer s .number ≡ 0 → ⊥ = λ z. rule-number o t (sym (w .number-is) ∙ a ∙ z) in
     ap₂ (λ (n p : ℕ). refusal n p old) a b
-    ∙ refused-written (afterRule s file (ruleAnswer s)) (ruleAnswer s .number) (ruleAnswer s .place) old (simp (ne-eqb (ruleAnswer s .number) 0 h)) h
+    ∙ refused-written (afterRule s file (ruleAnswer s)) (ruleAnswer s .number) (ruleAnswer s .place) old
+    (simp (ne-eqb (ruleAnswer s .number) 0 h)) h
 
 -- the row lets the rule pass
 pub rule-pass : (s file : List ℕ) (m k : ℕ) (ns : List Node) → rule.values 0 0 m k ns ≡ ruleAnswer s
@@ -97,23 +87,14 @@ day-number (day-outcome.WrongSecond n) h = λ e. omega arith
 day-number day-outcome.ManyLines h = λ e. omega arith
 day-number day-outcome.ShortBuffer h = λ e. omega arith
 
-day-same : (o : day-type.Outcome) (ls ss : List ℕ)
-    → (dayValues o [] [] .number ≡ dayValues o ls ss .number) × (dayValues o [] [] .place ≡ dayValues o ls ss .place)
-day-same (day-outcome.Accepted n) ls ss = (refl, refl)
-day-same day-outcome.LongFile ls ss = (refl, refl)
-day-same (day-outcome.Malformed n) ls ss = (refl, refl)
-day-same (day-outcome.WrongSecond n) ls ss = (refl, refl)
-day-same day-outcome.ManyLines ls ss = (refl, refl)
-day-same day-outcome.ShortBuffer ls ss = (refl, refl)
-
 -- the row refuses
-pub day-stop : (s : List ℕ) (m k : ℕ) (old : List ℕ) (d : DayAnswer) (o : day-type.Outcome) (ls ss : List ℕ) (v : Verdict) → dayValues o ls ss ≡ d
-    → OneOf (1 ∷ 2 ∷ 3 ∷ 4 ∷ 5 ∷ []) (tagOf day-declared.the-type o)
+pub day-stop : (s : List ℕ) (m k : ℕ) (old : List ℕ) (d : DayAnswer) (o : day-type.Outcome) (ls ss : List ℕ) (v : Verdict)
+    → dayValues o ls ss ≡ d → OneOf (1 ∷ 2 ∷ 3 ∷ 4 ∷ 5 ∷ []) (tagOf day-declared.the-type o)
     → Says v (dayValues o [] [] .number) (dayValues o [] [] .place) (dayValues o [] [] .found) (dayValues o [] [] .count)
     → refusal (v .number) (v .place) old ≡ written (afterDay s m k d) old
 day-stop s m k old d o ls ss v e t w =
-    let a : v .number ≡ d .number = w .number-is ∙ day-same o ls ss .0 ∙ ap (λ (x : DayAnswer). x .number) e in
-    let b : v .place ≡ d .place = w .place-is ∙ day-same o ls ss .1 ∙ ap (λ (x : DayAnswer). x .place) e in
+    let a : v .number ≡ d .number = w .number-is ∙ ap (λ (x : DayAnswer). x .number) (day-beside o ls ss ∙ e) in
+    let b : v .place ≡ d .place = w .place-is ∙ ap (λ (x : DayAnswer). x .place) (day-beside o ls ss ∙ e) in
     let h : d .number ≡ 0 → ⊥ = λ z. day-number o t (sym (w .number-is) ∙ a ∙ z) in
     ap₂ (λ (n p : ℕ). refusal n p old) a b ∙ refused-written (afterDay s m k d) (d .number) (d .place) old (simp (ne-eqb (d .number) 0 h)) h
 
@@ -148,28 +129,14 @@ judge-number (judge-outcome.ForeignEvent n) h = λ e. omega arith
 judge-number judge-outcome.ShortTable h = λ e. omega arith
 judge-number (judge-outcome.Spent c) h = λ e. omega arith
 
-judge-same : (o : judge-type.Outcome) (b : List ℕ)
-    → (judgeValues o [] .number ≡ judgeValues o b .number) × (judgeValues o [] .place ≡ judgeValues o b .place)
-judge-same (judge-outcome.Accepted f c) b = (refl, refl)
-judge-same judge-outcome.EmptyText b = (refl, refl)
-judge-same judge-outcome.LongText b = (refl, refl)
-judge-same (judge-outcome.ForeignByte n) b = (refl, refl)
-judge-same (judge-outcome.NoSentence n) b = (refl, refl)
-judge-same judge-outcome.ManyNodes b = (refl, refl)
-judge-same judge-outcome.ManySpecials b = (refl, refl)
-judge-same judge-outcome.LongWord b = (refl, refl)
-judge-same (judge-outcome.ForeignEvent n) b = (refl, refl)
-judge-same judge-outcome.ShortTable b = (refl, refl)
-judge-same (judge-outcome.Spent c) b = (refl, refl)
-
 -- the row refuses
 pub judge-stop : (n m k : ℕ) (old : List ℕ) (j : JudgeAnswer) (o : judge-type.Outcome) (b : List ℕ) (v : Verdict) → judgeValues o b ≡ j
     → OneOf (1 ∷ 2 ∷ 3 ∷ 4 ∷ 5 ∷ 6 ∷ 7 ∷ 8 ∷ 9 ∷ 10 ∷ []) (tagOf judge-declared.the-type o)
     → Says v (judgeValues o [] .number) (judgeValues o [] .place) (judgeValues o [] .found) (judgeValues o [] .count)
     → refusal (v .number) (v .place) old ≡ written (afterJudge j n m k) old
 judge-stop n m k old j o b v e t w =
-    let a : v .number ≡ j .number = w .number-is ∙ judge-same o b .0 ∙ ap (λ (x : JudgeAnswer). x .number) e in
-    let p : v .place ≡ j .place = w .place-is ∙ judge-same o b .1 ∙ ap (λ (x : JudgeAnswer). x .place) e in
+    let a : v .number ≡ j .number = w .number-is ∙ ap (λ (x : JudgeAnswer). x .number) (judge-beside o b ∙ e) in
+    let p : v .place ≡ j .place = w .place-is ∙ ap (λ (x : JudgeAnswer). x .place) (judge-beside o b ∙ e) in
     let h : j .number ≡ 0 → ⊥ = λ z. judge-number o t (sym (w .number-is) ∙ a ∙ z) in
     ap₂ (λ (x y : ℕ). refusal x y old) a p ∙ refused-written (afterJudge j n m k) (j .number) (j .place) old (simp (ne-eqb (j .number) 0 h)) h
 

@@ -5,7 +5,6 @@ use mathlib.Core.Bool.{Bool, cond, not, _&&_}
 use mathlib.Core.List.{List, [], _++_}
 use lib.Dec.{eqb, ltb}
 use lib.ListN.{length, getD, take, drop, replicate}
-use Rattle.event.specs.Event.{Word}
 use Rattle.event.specs.Leading.{leading}
 use Rattle.rule.specs.RuleAnswer.{RuleAnswer, ruleAnswer}
 use Rattle.day.specs.DayAnswer.{DayAnswer, dayAnswer}

@@ -67,7 +67,8 @@ fn run_rule(rule: &[u8], file: &[u8], out: &mut [u8]) -> Answer
 fn run_day(rule: &[u8], m: usize, k: usize, file: &[u8], out: &mut [u8]) -> Answer
     requires { ⌜ (m ≤ 64) × (k ≤ 7) ⌝ }
     ensures { λ r. ⌜ jobValues r (now (out .exit))
-        ≡ written (afterDay (now (rule .entry)) m k (dayAnswer (now (file .entry)) (replicate 255 0) (replicate 255 0))) (now (out .entry)) ⌝ }
+        ≡ written (afterDay (now (rule .entry)) m k (dayAnswer (now (file .entry)) (replicate 255 0) (replicate 255 0)))
+        (now (out .entry)) ⌝ }
 {
     let mut letters = [0u8; 255];
     let mut seconds = [0u32; 255];
@@ -83,7 +84,8 @@ fn run_judge(rule: &[u8], m: usize, k: usize, word: &[u8], out: &mut [u8]) -> An
     requires { ⌜ (m ≤ 64) × (k ≤ 7) ⌝ }
     requires { ⌜ length (now word) ≤ 255 ⌝ }
     ensures { λ r. ⌜ jobValues r (now (out .exit))
-        ≡ written (afterJudge (judgeAnswer (now (rule .entry)) (now (word .entry)) (limitOf m (length (now (word .entry)))) (replicate 8192 0))
+        ≡ written (afterJudge
+        (judgeAnswer (now (rule .entry)) (now (word .entry)) (limitOf m (length (now (word .entry)))) (replicate 8192 0))
         (length (now (word .entry))) m k) (now (out .entry)) ⌝ }
 {
     let n = word.len();

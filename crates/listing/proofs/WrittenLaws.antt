@@ -7,10 +7,10 @@ use mathlib.Core.List.{List, [], _∷_, _++_, append-assoc}
 use lib.ListN.{length, getD, take, drop, set, replicate, length-append, length-replicate}
 use lib.Seq.{sets, sets-eq, length-sets, take-suc, take-at}
 use Rattle.decimal.specs.Decimal.{decimal}
-use Rattle.listing.specs.declared.Heading.{Heading}
-use Rattle.listing.specs.Lines.{field, fields, line, headLine, refusalLine}
-use Rattle.listing.specs.Written.{Written}
 use Rattle.decimal.proofs.NumeralLaws.{decimal-length}
+use Rattle.listing.specs.declared.Heading.{Heading}
+use Rattle.listing.specs.Lines.{field, fields, line, headLine}
+use Rattle.listing.specs.Written.{Written}
 
 sets-append : (l : List ℕ) (i : ℕ) (s t : List ℕ) → sets l i (s ++ t) ≡ sets (sets l i s) (i + length s) t
 sets-append l i [] t = let e : i ≡ i + 0 = omega arith in ap (λ (k : ℕ). sets l k t) e
@@ -35,16 +35,17 @@ pub written-long : {old s new : List ℕ} {at e : ℕ} → Written old at s new 
 written-long {old} {s} {new} {at} w = ap length (w .bytes) ∙ length-sets old at s
 
 -- at the front of a buffer
-pub written-front : {old s new : List ℕ} {e : ℕ} → Written old 0 s new e → length s ≤ length old → new ≡ s ++ drop (length s) old
+pub written-front : {old s new : List ℕ} {e : ℕ} → Written old 0 s new e → 0 + length s ≤ length old → new ≡ s ++ drop (length s) old
 written-front {old} {s} w h =
     let z : 0 + length s ≡ length s = omega arith in
-    w .bytes ∙ sets-eq s old 0 (omega arith) ∙ ap (λ (k : ℕ). s ++ drop k old) z
+    w .bytes ∙ sets-eq s old 0 h ∙ ap (λ (k : ℕ). s ++ drop k old) z
 
 -- one element more of a list that is being written
 pub written-more : {old new : List ℕ} {at : ℕ} (s : List ℕ) (i : ℕ) → i < length s → Written old at (take i s) new (at + i)
     → Written old at (take (i + 1) s) (set new (at + i) (getD s i 0)) (at + (i + 1))
 written-more {old} {new} {at} s i h w =
-    let one : Written new (at + i) (getD s i 0 ∷ []) (set new (at + i) (getD s i 0)) (at + i + 1) = record { bytes = refl; upto = omega arith } in
+    let x = getD s i 0 in
+    let one : Written new (at + i) (x ∷ []) (set new (at + i) x) (at + i + 1) = record { bytes = refl; upto = omega arith } in
     let both = written-then w one in
     let e : at + (i + 1) ≡ at + i + 1 = omega arith in
     rw (e, add-one, take-suc s i 0 h) both
@@ -74,9 +75,9 @@ module _ {bytes : List ℕ} {len : ℕ} (x : ℕ)
 pub fields-length : (x : ℕ) (l : List ℕ) → length (fields (x ∷ l)) ≡ length (field x) + length (fields l)
 fields-length x l = length-append (field x) (fields l)
 
-pub refusal-short : (number place : ℕ) → length (refusalLine number place) ≤ 44
-refusal-short number place =
-    omega (arith, fields-length number (place ∷ []), fields-length place [], decimal-length number, decimal-length place)
+-- a line of two fields is short
+pub line-short : (c x y : ℕ) → 0 + length (line c (x ∷ y ∷ [])) ≤ 44
+line-short c x y = omega (arith, fields-length x (y ∷ []), fields-length y [], decimal-length x, decimal-length y)
 
 pub head-length : (h : Heading) → length (headLine h)
     ≡ 2 + length (field (h .n)) + length (field (h .m)) + length (field (h .k)) + length (field (h .found)) + length (field (h .count))
@@ -86,7 +87,7 @@ head-length h =
     let f = fields-length (h .m) (h .k ∷ h .found ∷ last) in
     omega (arith, e, f, fields-length (h .k) (h .found ∷ last), fields-length (h .found) last, fields-length (h .count) [])
 
--- what is written is the line `whole` but for the fields l and the newline
+-- of the line `whole` all is written but the fields l and the newline
 pub record Begun (old : List ℕ) (at : ℕ) (whole l mid : List ℕ) (m : ℕ) : Type 0 where
   pub done : List ℕ
   pub written : Written old at done mid m
@@ -101,7 +102,8 @@ module _ {old whole mid : List ℕ} {at m : ℕ} where
       let e = ap length (b .onward) in
       omega (arith, e, length-append (b .done) (fields l), b .written .upto, written-long (b .written))
 
-  pub field-fits : {x : ℕ} {l : List ℕ} → Begun old at whole (x ∷ l) mid m → at + length whole ≤ length old → m + length (field x) ≤ length mid
+  pub field-fits : {x : ℕ} {l : List ℕ} → Begun old at whole (x ∷ l) mid m → at + length whole ≤ length old
+      → m + length (field x) ≤ length mid
   field-fits {x} {l} b h = omega (arith, left-length b h, fields-length x l)
 
   pub newline-fits : Begun old at whole [] mid m → at + length whole ≤ length old → m < length mid

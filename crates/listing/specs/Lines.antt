@@ -5,10 +5,11 @@ use Rattle.decimal.specs.Decimal.{decimal}
 use Rattle.work.specs.Spans.{Spans}
 use Rattle.listing.specs.declared.Heading.{Heading}
 
--- 01, The program: "Fields are decimal without leading zeros, .. tab between, newline after each line": a tab and a field, for each
+-- 01, The program: "Fields are decimal without leading zeros, .. tab between": a tab and a field
 abbrev pub field : ℕ → List ℕ
 field x = 9 ∷ decimal x
 
+-- 01: "newline after each line": fields up to the end of the line
 abbrev pub fields : List ℕ → List ℕ
 fields [] = 10 ∷ []
 fields (x ∷ l) = field x ++ fields l

@@ -1,7 +1,6 @@
 -- The spans that a block marks, and the text that lists them. Assumes nothing.
 use Prim.Native.Nat.{ℕ, zero, suc, _*_}
-use mathlib.Core.Bool.{Bool, cond}
-use mathlib.Core.List.{List, [], _∷_, _++_}
+use mathlib.Core.List.{List, [], _++_}
 use lib.ListN.{length}
 use Rattle.bits.specs.Bit.{bitAt}
 use Rattle.work.specs.Spans.{Spans, listIf}

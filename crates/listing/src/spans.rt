@@ -42,7 +42,8 @@ fn write_number(block: &[u64], q: usize, out: &mut [u8], at: usize) -> usize
 pub fn write_spans(block: &[u64], out: &mut [u8], at: usize) -> usize
     requires { ⌜ length (now block) ≤ 1024 ⌝ }
     requires { ⌜ at + length (linesFrom (now block) (64 * length (now block)) 0) ≤ length (now out) ⌝ }
-    ensures { λ r. ⌜ Written (now (out .entry)) at (linesFrom (now (block .entry)) (64 * length (now (block .entry))) 0) (now (out .exit)) r ⌝ }
+    ensures { λ r. ⌜ Written (now (out .entry)) at (linesFrom (now (block .entry)) (64 * length (now (block .entry))) 0)
+        (now (out .exit)) r ⌝ }
 {
     let mut end = at;
     let mut q = 0;

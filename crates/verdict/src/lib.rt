@@ -30,7 +30,8 @@ pub fn refusal(number: u64, place: u64) -> Verdict
 
 // The verdict of the rule reader; the records are no part of it.
 pub fn of_rule(outcome: RuleOutcome) -> Verdict
-    ensures { λ r. ⌜ Says r (ruleValues outcome [] .number) (ruleValues outcome [] .place) (ruleValues outcome [] .found) (ruleValues outcome [] .count) ⌝ }
+    ensures { λ r. ⌜ Says r (ruleValues outcome [] .number) (ruleValues outcome [] .place) (ruleValues outcome [] .found)
+        (ruleValues outcome [] .count) ⌝ }
 {
     match outcome {
         RuleOutcome::Accepted(m, k) => refusal(0, 0),

@@ -1,7 +1,7 @@
 -- `run` answers as `jobAnswer`, and so by the grammar, the language and the collection. Assumes nothing.
 use Prim.Native.Nat.{ℕ}
 use native.Mathlib.Omega.{arith}
-use mathlib.Core.Path.{sym, ap₂, _∙_}
+use mathlib.Core.Path.{ap₂, _∙_}
 use mathlib.Core.List.{List}
 use borrow.Author.Needs.{needs}
 use Rattle.rule.specs.RuleAnswer.{ruleAnswer}

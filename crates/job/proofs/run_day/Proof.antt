@@ -16,14 +16,14 @@ use Rattle.job.proofs.run_day.Statement.{statement}
 use Rattle.job.proofs.run_day.Tie as tie
 
 -- the events of a day that passes fit the buffer
-fits : {file old-ls old-ss : List ℕ} {d : Outcome} (n : ℕ) (ls ss : List ℕ) → d ≡ Accepted n → DayMeaning file old-ls old-ss (dayValues d ls ss)
-    → length ls ≡ 255 → n ≤ length ls
+fits : {file old-ls old-ss : List ℕ} {d : Outcome} (n : ℕ) (ls ss : List ℕ) → d ≡ Accepted n
+    → DayMeaning file old-ls old-ss (dayValues d ls ss) → length ls ≡ 255 → n ≤ length ls
 fits {file} {old-ls} {old-ss} n ls ss e m l =
     let h : n ≤ 255 = days (subst (λ (x : Outcome). DayMeaning file old-ls old-ss (dayValues x ls ss)) e m) in
     omega arith
 
-short : {file old-ls old-ss : List ℕ} {d : Outcome} (n : ℕ) (ls ss : List ℕ) → d ≡ Accepted n → DayMeaning file old-ls old-ss (dayValues d ls ss)
-    → length ls ≡ 255 → length (take n ls) ≤ 255
+short : {file old-ls old-ss : List ℕ} {d : Outcome} (n : ℕ) (ls ss : List ℕ) → d ≡ Accepted n
+    → DayMeaning file old-ls old-ss (dayValues d ls ss) → length ls ≡ 255 → length (take n ls) ≤ 255
 short n ls ss e m l =
     let h = fits n ls ss e m l in
     let z = length-take-le n ls h in

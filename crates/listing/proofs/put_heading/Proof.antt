@@ -1,4 +1,5 @@
--- `put_heading` writes the letter, the five fields and the newline. Assumes nothing.
+-- `put_heading` writes the letter, the five fields and the newline: p0 to p5 are the calls that wrote the letter and the fields,
+-- and b0 to b5 say how much of the line stands then. Assumes nothing.
 use mathlib.Core.List.{[], _∷_}
 use borrow.Author.Needs.{needs}
 use native.Mathlib.Omega.{arith}

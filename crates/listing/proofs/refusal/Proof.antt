@@ -5,7 +5,7 @@ use borrow.Author.Needs.{needs}
 use native.Mathlib.Omega.{arith}
 use lib.ListN.{length}
 use Rattle.listing.specs.Lines.{refusalLine}
-use Rattle.listing.proofs.WrittenLaws.{written-front, drop-zeros, refusal-short}
+use Rattle.listing.proofs.WrittenLaws.{written-front, drop-zeros, line-short}
 use Rattle.listing.proofs.refusal.Statement.{statement}
 use Rattle.listing.proofs.refusal.Tie as tie
 
@@ -13,11 +13,9 @@ pub refusal-spec : {M : Type 1} → statement M
 refusal-spec =
     tie.close (tie.spec
     (λ c. search needs)
-    (λ c κs.
-    let s = c .before .args in
-    omega (arith, refusal-short (s .number) (s .place)))
+    (λ c κs. line-short 88 _ _)
     (λ c.
     let s = c .before .before .before .args in
     let w = c .before .put-line .ensures in
     let l = refusalLine (s .number) (s .place) in
-    (written-front w (refusal-short (s .number) (s .place)) ∙ ap (l ++_) (drop-zeros (length l) 44), omega (arith, w .upto))))
+    (written-front w (line-short 88 _ _) ∙ ap (l ++_) (drop-zeros (length l) 44), omega (arith, w .upto))))

@@ -20,5 +20,7 @@ write-spec =
     (s .pre .0, omega (arith, s .pre .1, w .upto, written-long w, listing-length (s .args .heading) (s .args .block .now))))
     (λ c. search needs)
     (λ c.
-    let s = c .before .before .before .before .before .before .before .before .before .before in
-    written-front (written-then (c .before .before .before .before .before .before .put-heading .ensures) (c .before .before .write-spans .ensures)) (s .pre .1)))
+    let spans = c .before .before in
+    let head = spans .before .before .before .before in
+    let s = head .before .before .before .before in
+    written-front (written-then (head .put-heading .ensures) (spans .write-spans .ensures)) (omega (arith, s .pre .1))))

@@ -1,7 +1,6 @@
 -- `line_end` is `lineEnd`. Assumes nothing.
 use native.Mathlib.Omega.{arith}
 use borrow.Author.Needs.{needs}
-use lib.ListN.{length-drop}
 use Rattle.event.proofs.Tails.{tail, tail-length}
 use Rattle.event.proofs.LeadingLaws.{leading-found}
 use Rattle.job.specs.JobAnswer.{notNewline}

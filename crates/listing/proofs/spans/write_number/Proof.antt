@@ -3,7 +3,6 @@ use Prim.Native.Nat.{ℕ, _+_, _-_, _*_, _≤_}
 use mathlib.Core.Path.{_≡_, sym, ap}
 use borrow.Author.Needs.{needs}
 use native.Mathlib.Omega.{arith}
-use lib.ListN.{length}
 use Rattle.listing.specs.Marked.{linesFrom}
 use Rattle.listing.specs.Written.{Written}
 use Rattle.listing.proofs.WrittenLaws.{written-none, written-then, written-long, written-as}

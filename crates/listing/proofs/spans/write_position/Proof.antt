@@ -13,13 +13,15 @@ write-position-spec =
     tie.close (tie.spec
     (λ c κs. search needs)
     (λ c κs.
-    let s = c .before .before .before .before .before in
-    let e = lines-marked (s .args .block .now) (s .args .p) (sym (c .before .before .test .ensures) ∙ c .before .if1 .taken) in
+    let t = c .before in
+    let s = t .before .before .before .before in
+    let e = lines-marked (s .args .block .now) (s .args .p) (sym (t .before .test .ensures) ∙ t .if1 .taken) in
     omega (arith, ap length e, s .pre .1))
     (λ c. search needs)
     (λ c.
-    let s = c .before .before .before .before .before .before .before .before in
-    let e = lines-marked (s .args .block .now) (s .args .p) (sym (c .before .before .before .before .before .test .ensures) ∙ c .before .before .before .before .if1 .taken) in
+    let t = c .before .before .before .before in
+    let s = t .before .before .before .before in
+    let e = lines-marked (s .args .block .now) (s .args .p) (sym (t .before .test .ensures) ∙ t .if1 .taken) in
     written-as (sym e) (c .before .before .put-line .ensures))
     (λ c.
     let s = c .before .before .before .before in

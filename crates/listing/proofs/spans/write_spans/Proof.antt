@@ -25,7 +25,7 @@ write-spans-spec =
     let w = r .inv .1 in
     let h : r .q < length (s .args .block .now) = omega (arith, c .before .loop-test .taken) in
     let f = numbers-within (s .args .block .now) (r .q) (length (s .args .block .now)) h in
-    ((h, s .pre .0), omega (arith, s .pre .1, w .upto, written-long w, f)))
+    ((omega (arith, h), s .pre .0), omega (arith, s .pre .1, w .upto, written-long w, f)))
     (λ c. search needs)
     (λ c. search needs)
     (λ c.

@@ -1,0 +1,226 @@
+-- What follows of every answer to a job: no number of the judge's own, and how long a text can be. Assumes nothing.
+use Prim.Native.Nat.{ℕ, zero, suc, _+_, _*_, _≤_}
+use native.Mathlib.Omega.{arith}
+use native.Mathlib.Nat.{mul-le-mul}
+use mathlib.Core.Path.{_≡_, refl, sym, ap, subst, _∙_}
+use mathlib.Core.Bool.{Bool, true, false, cond}
+use mathlib.Core.List.{List, [], _∷_, List·Memᴰ, List·Memᴰ·head, List·Memᴰ·tail}
+use lib.Dec.{eqb}
+use lib.ListN.{length, take, drop, length-append}
+use lib.Seq.{slice, take-at}
+use borrow.Author.Tests.{eq-eqb, ne-eqb}
+use Rattle.decimal.specs.Decimal.{decimal}
+use Rattle.decimal.proofs.NumeralLaws.{decimal-few, decimal-three, decimal-length}
+use Rattle.event.specs.Event.{Word}
+use Rattle.regex.specs.Tree.{Tree, size, specials}
+use Rattle.regex.specs.Accept.{accepts}
+use Rattle.rule.specs.RuleAnswer.{RuleAnswer}
+use Rattle.rule.specs.RuleMeaning.{RuleMeaning, empty-text, long-text, foreign-byte, no-sentence, many-nodes, many-specials}
+use Rattle.rule.specs.RuleMeaning as rule-meaning
+use Rattle.day.specs.DayAnswer.{DayAnswer}
+use Rattle.day.specs.DayMeaning.{DayMeaning, long-file, many-lines, malformed-line, wrong-second}
+use Rattle.day.specs.DayMeaning as day-meaning
+use Rattle.work.specs.Count.{fullCount}
+use Rattle.work.specs.Spans.{Spans, listIf, fromStart, fromStarts, obeying}
+use Rattle.work.specs.Table.{found}
+use Rattle.work.proofs.Found.{found-listed}
+use Rattle.work.proofs.Listed.{listed}
+use Rattle.listing.specs.Lines.{fields, line, spanLine, spanLines, headLine, refusalLine}
+use Rattle.job.specs.declared.Answer.{Answer}
+use Rattle.job.specs.JobAnswer.{refused, limitOf, JobAnswer, jobAnswer, jobValues, jobResult, jobText}
+use Rattle.judge.specs.JudgeMeaning.{Passed}
+use Rattle.job.specs.JobMeaning.{Judged, JobMeaning, no-rule-line, rule-refused, day-refused, short-buffer, accepted}
+use Rattle.job.proofs.Answered.{answer-means, judged-short, at-refusal, at-text}
+use Rattle.job.proofs.Listed.{heading, text, text-obeying}
+use Rattle.job.proofs.Rows.{limit-enough, result-none, result-rule, result-day, result-judged, refusal-number}
+use Rattle.job.proofs.Rows.{Comes, no-line, at-rule, at-day, at-judge, comes}
+
+-- ---- the numbers of a job
+-- 1 to 6 of a refused rule, 11 to 15 of a refused day
+rule-numbers : {s : List ℕ} {a : RuleAnswer} → RuleMeaning s a → a .number ≤ 6
+rule-numbers (empty-text h) = omega arith
+rule-numbers (long-text h) = omega arith
+rule-numbers (foreign-byte f h l b) = omega arith
+rule-numbers (no-sentence l h g) = omega arith
+rule-numbers (many-nodes l r h) = omega arith
+rule-numbers (many-specials l r h g) = omega arith
+rule-numbers (rule-meaning.accepted l r h g) = omega arith
+
+day-numbers : {file ls ss : List ℕ} {a : DayAnswer} → DayMeaning file ls ss a → 1 ≤ a .number → (11 ≤ a .number) × (a .number ≤ 15)
+day-numbers (long-file h) z = (omega arith, omega arith)
+day-numbers (many-lines u h) z = (omega arith, omega arith)
+day-numbers (malformed-line u h f) z = (omega arith, omega arith)
+day-numbers (wrong-second u h l g) z = (omega arith, omega arith)
+day-numbers (day-meaning.short-buffer w h) z = (omega arith, omega arith)
+day-numbers (day-meaning.accepted w h g) z = absurd (omega arith)
+
+-- the numbers between the rule text's and the day file's rows are the judge's own, 7, 8, 9 and 10
+between : {s old : List ℕ} {a : JobAnswer} → JobMeaning s old a → 7 ≤ a .number → 11 ≤ a .number
+between (no-rule-line h) z = omega arith
+between (rule-refused d m) z = absurd (omega (arith, rule-numbers m))
+between (day-refused d p m) z = day-numbers (m .means) (m .refused) .0
+between (short-buffer j l h) z = omega arith
+between (accepted j l h) z = absurd (omega arith)
+
+-- 7, 8, 9 and 10 never come from a job
+pub never-judge : (s old : List ℕ) → 7 ≤ jobAnswer s old .number → jobAnswer s old .number ≤ 10 → ⊥
+never-judge s old h l = let b = between (answer-means s old) h in omega arith
+
+-- 10 never comes, since the limit is never below the work
+pub never-spent : {s : List ℕ} {t : Tree} {w : Word} → Judged s t w → fullCount w t ≤ limitOf (size t) (length w)
+never-spent {t = t} {w = w} j = limit-enough w t
+
+-- ---- the longest text
+-- a word of n events has (n + 1) × (n + 2) / 2 spans
+module _ (w : Word) (t : Tree) where
+  list-most : (b : Bool) (i j : ℕ) (l : Spans) → length (listIf b i j l) ≤ suc (length l)
+  list-most true i j l = omega arith
+  list-most false i j l = omega arith
+
+  start-most : (d i j : ℕ) (l : Spans) → length (fromStart w t i d j l) ≤ suc d + length l
+  start-most zero i j l = omega (arith, list-most (accepts t (slice i j w)) i j l)
+  start-most (suc d) i j l =
+      omega (arith, list-most (accepts t (slice i j w)) i j (fromStart w t i d (suc j) l), start-most d i (suc j) l)
+
+  starts-most : (d i : ℕ) → 2 * length (fromStarts w t d i) ≤ (d + 1) * (d + 2)
+  starts-most zero i = omega (arith, start-most zero i i [])
+  starts-most (suc d) i = omega (arith, start-most (suc d) i i (fromStarts w t d (suc i)), starts-most d (suc i))
+
+  pub spans-most : length w ≤ 255 → length (obeying w t) ≤ 32896
+  unfolding obeying
+  spans-most h =
+      let a : length w + 1 ≤ 256 = omega arith in
+      let b : length w + 2 ≤ 257 = omega arith in
+      let m : (length w + 1) * (length w + 2) ≤ 256 * 257 = mul-le-mul a b in
+      omega (arith, starts-most (length w) 0)
+
+-- a line's length, from those of its fields
+field-length : (x : ℕ) (l : List ℕ) → length (fields (x ∷ l)) ≡ 1 + length (decimal x) + length (fields l)
+field-length x l = omega (arith, length-append (decimal x) (fields l))
+
+line-two : (c x y : ℕ) → length (line c (x ∷ y ∷ [])) ≡ 4 + length (decimal x) + length (decimal y)
+line-two c x y = omega (arith, field-length x (y ∷ []), field-length y [])
+
+-- the lines of spans that end at 255 at most
+span-lines-most : (l : Spans) → ((p : ℕ × ℕ) → List·Memᴰ p l → (p .0 ≤ 255) × (p .1 ≤ 255)) → length (spanLines l) ≤ 10 * length l
+unfolding spanLines
+span-lines-most [] h = omega arith
+span-lines-most (p ∷ l) h =
+    let a = h p (List·Memᴰ·head refl) in
+    let e = length-append (spanLine (p .0) (p .1)) (spanLines l) in
+    let f = line-two 83 (p .0) (p .1) in
+    let x = decimal-three (p .0) (omega (arith, a .0)) in
+    let y = decimal-three (p .1) (omega (arith, a .1)) in
+    let r = span-lines-most l (λ q m. h q (List·Memᴰ·tail m)) in
+    omega arith
+
+-- the `H` line
+head-most : {rule : List ℕ} (w : Word) (t : Tree) → Passed rule t → length w ≤ 255 → length (headLine (heading w t)) ≤ 25
+head-most w t p h =
+    let n = length w in
+    let m = size t in
+    let k = specials t in
+    let f = found w t in
+    let c = fullCount w t in
+    let e = found-listed w t h in
+    let g = spans-most w t h in
+    let x : n + 1 ≤ 256 = omega arith in
+    let y : n + 2 ≤ 257 = omega arith in
+    let z : (n + 1) * (n + 2) ≤ 256 * 257 = mul-le-mul x y in
+    let b : m * ((n + 1) * (n + 2)) ≤ 64 * (256 * 257) = mul-le-mul (p .nodes) z in
+    let q = limit-enough w t in
+    let dn = decimal-few 3 n (omega arith) (omega arith) in
+    let dm = decimal-few 2 m (omega arith) (omega (arith, p .nodes)) in
+    let dk = decimal-few 1 k (omega arith) (omega (arith, p .special)) in
+    let df = decimal-few 5 f (omega arith) (omega arith) in
+    let dc = decimal-few 7 c (omega arith) (omega arith) in
+    let ln = field-length n (m ∷ k ∷ f ∷ c ∷ []) in
+    let lm = field-length m (k ∷ f ∷ c ∷ []) in
+    let lk = field-length k (f ∷ c ∷ []) in
+    let lf = field-length f (c ∷ []) in
+    let lc = field-length c [] in
+    omega arith
+
+judged-most : {s : List ℕ} {t : Tree} {w : Word} → Judged s t w → length (text w t) ≤ 328985
+judged-most {t = t} {w = w} j =
+    let h = judged-short j in
+    let e = ap length (text-obeying w t h) in
+    let a = length-append (headLine (heading w t)) (spanLines (obeying w t)) in
+    let b = head-most w t (j .passed) h in
+    let c = spans-most w t h in
+    let d = span-lines-most (obeying w t) (λ p m.
+    let o = listed w t (p .0) (p .1) .0 m in
+    let x = o .order in
+    let y = o .inside in
+    (omega arith, omega arith)) in
+    omega arith
+
+-- ---- the program
+pub refusal-most : (n p : ℕ) → length (refusalLine n p) ≤ 44
+refusal-most n p = omega (arith, line-two 88 n p, decimal-length n, decimal-length p)
+
+text-refused : (s : List ℕ) {n p : ℕ} → jobResult s ≡ refused n p → (n ≡ 0 → ⊥) → jobText s ≡ refusalLine n p
+unfolding jobText
+text-refused s {n} e h = rw e (simp (ne-eqb n 0 h))
+
+text-judged : {s : List ℕ} {t : Tree} {w : Word} → Judged s t w → jobText s ≡ text w t
+unfolding jobText
+text-judged j = rw (result-judged j) refl
+
+-- no text of the program is longer
+pub text-most : (s : List ℕ) → length (jobText s) ≤ 328985
+text-most s = most (comes s)
+  where
+    short : {n p : ℕ} → jobResult s ≡ refused n p → (n ≡ 0 → ⊥) → length (jobText s) ≤ 328985
+    short {n} {p} e h = let f = ap length (text-refused s e h) in omega (arith, refusal-most n p)
+
+    most : Comes s → length (jobText s) ≤ 328985
+    most (no-line h) = short (result-none h) (λ e. omega arith)
+    most (at-rule d m) = short (result-rule d m) (refusal-number m)
+    most (at-day d p m) = short (result-day d p m) (λ e. omega (arith, m .refused))
+    most (at-judge j) = let f = ap length (text-judged j) in omega (arith, judged-most j)
+
+-- what the program writes is what the call left in its buffer, or the line of the refusal
+module _ (s old : List ℕ) (room : 328985 ≤ length old) where
+  abbrev answered : JobAnswer → List ℕ
+  answered a = cond (eqb (a .number) 0) (take (a .n) (a .out)) (refusalLine (a .number) (a .place))
+
+  stopped : {n p : ℕ} → jobResult s ≡ refused n p → (n ≡ 0 → ⊥) → jobText s ≡ answered (jobAnswer s old)
+  stopped {n} e h = text-refused s e h ∙ rw (← at-refusal s old e h) (simp (ne-eqb n 0 h))
+
+  told : Comes s → jobText s ≡ answered (jobAnswer s old)
+  told (no-line h) = stopped (result-none h) (λ e. omega arith)
+  told (at-rule d m) = stopped (result-rule d m) (refusal-number m)
+  told (at-day d p m) = stopped (result-day d p m) (λ e. omega (arith, m .refused))
+  told (at-judge {t = t} {w = w} j) =
+      let l : length (text w t) ≤ length old = omega (arith, judged-most j) in
+      text-judged j ∙ rw (← at-text s old j l) (sym (take-at (text w t) (drop (length (text w t)) old) (length (text w t)) refl))
+
+  pub call-text : jobText s
+      ≡ cond (eqb (jobAnswer s old .number) 0) (take (jobAnswer s old .n) (jobAnswer s old .out))
+      (refusalLine (jobAnswer s old .number) (jobAnswer s old .place))
+  call-text = told (comes s)
+
+-- the text stands in the buffer
+text-inside : {s old : List ℕ} {a : JobAnswer} → JobMeaning s old a → a .n ≤ length (a .out)
+text-inside (no-rule-line h) = omega arith
+text-inside (rule-refused d m) = omega arith
+text-inside (day-refused d p m) = omega arith
+text-inside (short-buffer j l h) = omega arith
+text-inside {old = old} (accepted {text = x} j l h) = omega (arith, length-append x (drop (length x) old))
+
+-- the same of an answer of the code: where it accepts, the front of the buffer is the text
+module _ (s old : List ℕ) (room : 328985 ≤ length old) (a : Answer) (b : List ℕ) (e : jobValues a b ≡ jobAnswer s old) where
+  call : jobText s ≡ cond (eqb (a .number) 0) (take (a .n) b) (refusalLine (a .number) (a .place))
+  call =
+      subst (λ (x : JobAnswer). jobText s ≡ cond (eqb (x .number) 0) (take (x .n) (x .out)) (refusalLine (x .number) (x .place))) (sym e)
+      (call-text s old room)
+
+  pub text-listed : a .number ≡ 0 → take (a .n) b ≡ jobText s
+  text-listed z = sym (call ∙ simp (eq-eqb (a .number) 0 z))
+
+  pub text-stopped : (a .number ≡ 0 → ⊥) → refusalLine (a .number) (a .place) ≡ jobText s
+  text-stopped z = sym (call ∙ simp (ne-eqb (a .number) 0 z))
+
+  pub text-within : a .n ≤ length b
+  text-within = text-inside (subst (JobMeaning s old) (sym e) (answer-means s old))

@@ -1,0 +1,2 @@
+-- Laws for those who make an answer of a verdict.
+pub mod VerdictLaws
