@@ -22,18 +22,18 @@ pub fn output(job: &[u8]) -> String {
 }
 
 /// What the output for an accepted job says.
-struct Report {
+pub struct Report {
     n: usize,
     m: usize,
     k: usize,
-    found: u64,
-    count: u64,
+    pub found: u64,
+    pub count: u64,
     spans: Vec<(usize, usize)>,
 }
 
 impl Report {
     /// The heading line and then a line for each span.
-    fn lines(&self) -> String {
+    pub fn lines(&self) -> String {
         let Report {
             n,
             m,
@@ -51,7 +51,7 @@ impl Report {
 }
 
 /// Passes a job through the rows of the refusal table; a refusal is a number and a place.
-fn judge_job(job: &[u8]) -> Result<Report, (u32, usize)> {
+pub fn judge_job(job: &[u8]) -> Result<Report, (u32, usize)> {
     let plain = |refusal: Refusal| (refusal.number(), refusal.place);
     let (rule_text, day_file) = split_job(job).map_err(plain)?;
     let rule = rule::read(rule_text).map_err(plain)?;

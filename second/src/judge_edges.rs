@@ -176,7 +176,7 @@ const TABLE_CALLS: [(&str, &str); 5] = [
 const NO_EVENTS: [u8; 12] = *b"`{\0\xffA@Z1!\n\t\x80";
 
 /// One text for each refusal of a rule text, and more for those that name a place.
-const BAD_RULES: [&[u8]; 11] = [
+pub const BAD_RULES: [&[u8]; 11] = [
     b"",
     &[b'a'; 256],
     b"A",

@@ -1,9 +1,12 @@
 //! The second program: an independent reference implementation of document 01,
 //! written from documents 01 and 004 alone, to be compared with the program that is proved.
 
+#![deny(unsafe_code)]
+
 pub mod answers;
 pub mod calls;
 pub mod cases;
+pub mod compare;
 pub mod day;
 pub mod day_edges;
 pub mod draw;

@@ -87,7 +87,7 @@ fn with_long_word(random: &mut Random) -> Case {
 }
 
 /// A sentence within the limits: a small one, any one, or one that has as much as there may be.
-fn good_rule(random: &mut Random) -> Vec<u8> {
+pub fn good_rule(random: &mut Random) -> Vec<u8> {
     let letters = alphabet(random);
     match random.below(8) {
         0 => rule_of_many_nodes(random, letters),
@@ -130,7 +130,7 @@ fn good_word(random: &mut Random, rule: &[u8]) -> Vec<u8> {
 }
 
 /// A word of so many events, nearly all of them letters of the rule.
-fn word_of(random: &mut Random, rule: &[u8], n: usize) -> Vec<u8> {
+pub fn word_of(random: &mut Random, rule: &[u8], n: usize) -> Vec<u8> {
     let mut letters: Vec<u8> = rule
         .iter()
         .copied()

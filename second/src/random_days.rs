@@ -14,17 +14,22 @@ const FEW_LINES: usize = 20;
 
 /// A random day and random lengths of the buffers.
 pub fn case(random: &mut Random) -> Case {
-    let bytes = match random.below(50) {
-        0 => day_of_many_bytes(random),
-        1..=3 => arbitrary_bytes(random),
-        _ => day_of_lines(random),
-    };
+    let bytes = day(random);
     let n = bytes.iter().filter(|&&byte| byte == b'\n').count();
     let (letters, seconds) = buffer_lengths(random, n);
     Case::Day {
         letters,
         seconds,
         bytes,
+    }
+}
+
+/// A random day.
+pub fn day(random: &mut Random) -> Vec<u8> {
+    match random.below(50) {
+        0 => day_of_many_bytes(random),
+        1..=3 => arbitrary_bytes(random),
+        _ => day_of_lines(random),
     }
 }
 
@@ -56,8 +61,15 @@ fn line_count(random: &mut Random) -> usize {
     }
 }
 
-/// So many good lines, their seconds from a wide or a narrow part of the day.
+/// So many good lines.
 fn good_lines(random: &mut Random, count: usize) -> Vec<Line> {
+    let seconds = rising_seconds(random, count);
+    let line = |second| good_line(second, random_letter(random));
+    seconds.into_iter().map(line).collect()
+}
+
+/// So many seconds that never fall, from a wide or a narrow part of the day.
+pub fn rising_seconds(random: &mut Random, count: usize) -> Vec<usize> {
     let (first, width) = match random.below(6) {
         0 => (random.below(DAY), 1),
         1 => (0, 12),
@@ -67,8 +79,7 @@ fn good_lines(random: &mut Random, count: usize) -> Vec<Line> {
     };
     let mut seconds: Vec<usize> = (0..count).map(|_| first + random.below(width)).collect();
     seconds.sort_unstable();
-    let line = |second| good_line(second, random_letter(random));
-    seconds.into_iter().map(line).collect()
+    seconds
 }
 
 /// Any letter.
@@ -77,7 +88,7 @@ fn random_letter(random: &mut Random) -> u8 {
 }
 
 /// Damages a line, mostly by a wrong part; a new second may be too late, too early or still good.
-fn damage(random: &mut Random, lines: &mut Vec<Line>) {
+pub fn damage(random: &mut Random, lines: &mut Vec<Line>) {
     if lines.is_empty() {
         return;
     }

@@ -1,0 +1,3 @@
+-- Laws that the proofs of its functions cite.
+mod RowLaws
+mod ExportLaws

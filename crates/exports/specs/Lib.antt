@@ -1,0 +1,3 @@
+-- What the calls of the C interface leave in the buffers lent to them.
+pub mod Told
+pub mod Exported

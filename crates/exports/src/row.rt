@@ -1,0 +1,78 @@
+// Rows of numbers at the front of a buffer.
+use regex::Kind;
+use regex::Node;
+ghost use mathlib.Core.Path.{_≡_};
+ghost use mathlib.Core.List.{[], _∷_};
+ghost use Prim.Native.Nat.{_≤_};
+ghost use lib.ListN.{length, take};
+ghost use Rattle.exports.specs.Told.{over, kindNumber, nodeRow};
+
+// Number, place, found and count.
+pub fn write_four(answer: &mut [u64], number: u64, place: u64, found: u64, count: u64)
+    requires { ⌜ 4 ≤ length (now answer) ⌝ }
+    ensures { λ _. ⌜ now (answer .exit) ≡ over (number ∷ place ∷ found ∷ count ∷ []) (now (answer .entry)) ⌝ }
+{
+    answer[0] = number;
+    answer[1] = place;
+    answer[2] = found;
+    answer[3] = count;
+}
+
+// Number, place, found and count, and n.
+pub fn write_five(answer: &mut [u64], number: u64, place: u64, found: u64, count: u64, n: u64)
+    requires { ⌜ 5 ≤ length (now answer) ⌝ }
+    ensures { λ _. ⌜ now (answer .exit) ≡ over (number ∷ place ∷ found ∷ count ∷ n ∷ []) (now (answer .entry)) ⌝ }
+{
+    write_four(answer, number, place, found, count);
+    answer[4] = n;
+}
+
+// Number, place, found and count, and m and k.
+pub fn write_six(
+    answer: &mut [u64],
+    number: u64,
+    place: u64,
+    found: u64,
+    count: u64,
+    m: u64,
+    k: u64,
+)
+    requires { ⌜ 6 ≤ length (now answer) ⌝ }
+    ensures { λ _. ⌜ now (answer .exit) ≡ over (number ∷ place ∷ found ∷ count ∷ m ∷ k ∷ []) (now (answer .entry)) ⌝ }
+{
+    write_five(answer, number, place, found, count, m);
+    answer[5] = k;
+}
+
+// The number of a kind: a letter's is its byte.
+fn kind_number(kind: Kind) -> u64
+    ensures { λ r. ⌜ r ≡ kindNumber kind ⌝ }
+{
+    match kind {
+        Kind::Empty => 0,
+        Kind::Epsilon => 1,
+        Kind::Union => 2,
+        Kind::Intersection => 3,
+        Kind::Concatenation => 4,
+        Kind::Complement => 5,
+        Kind::Star => 6,
+        Kind::Letter(letter) => letter as u64,
+    }
+}
+
+// Offset and kind of the first m records.
+pub fn write_nodes(nodes: &mut [u64], records: [Node; 64], m: usize)
+    requires { ⌜ (m ≤ 64) × (length records ≡ 64) × (128 ≤ length (now nodes)) ⌝ }
+    ensures { λ _. ⌜ now (nodes .exit) ≡ over (nodeRow (take m records)) (now (nodes .entry)) ⌝ }
+{
+    let mut i = 0;
+    while i < m {
+        let node = records[i];
+        let kind = node.kind;
+        let offset = node.offset as u64;
+        let number = kind_number(kind);
+        nodes[2 * i] = offset;
+        nodes[2 * i + 1] = number;
+        i += 1;
+    }
+}

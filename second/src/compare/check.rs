@@ -1,0 +1,130 @@
+//! One call of the library, compared with the second program's to the last lent element.
+
+use super::call::{Call, Callee, Library};
+use super::lent::{Difference, Dirt, Lent, Side};
+use super::reference;
+use super::request::{Asked, Request};
+
+/// What came of one comparison.
+pub struct Checked {
+    pub callee: Callee,
+    /// The number that should have come; none where a buffer is too short for any answer.
+    pub number: Option<u32>,
+    pub difference: Option<Difference>,
+}
+
+/// Asks the library and the second program the same, and compares all that was lent.
+pub fn check(library: &Library, case: &str, request: &Request) -> Checked {
+    let mut buffers = Buffers::new(request);
+    library(case, buffers.call(request, Side::Library));
+    let number = reference::run(buffers.call(request, Side::Second));
+    Checked {
+        callee: request.asked.callee(),
+        number,
+        difference: buffers.difference(),
+    }
+}
+
+/// The buffers of any call; those that a call does not have are empty.
+struct Buffers {
+    /// What is read first: a rule text, a day file or a job.
+    first: Lent<u8>,
+    word: Lent<u8>,
+    /// The letters of a day, or the text of a job.
+    bytes: Lent<u8>,
+    seconds: Lent<u32>,
+    /// The nodes of a rule, or the table of a judgement.
+    numbers: Lent<u64>,
+    answer: Lent<u64>,
+}
+
+impl Buffers {
+    /// The buffers that a request asks for, full of its dirt.
+    fn new(request: &Request) -> Self {
+        let dirt = request.dirt;
+        let mut buffers = Buffers::empty(dirt);
+        buffers.answer = Lent::dirty("answer", request.answer, dirt);
+        match &request.asked {
+            Asked::Rule { text, nodes } => {
+                buffers.first = Lent::holding("text", text, dirt);
+                buffers.numbers = Lent::dirty("nodes", *nodes, dirt);
+            }
+            Asked::Day {
+                file,
+                letters,
+                seconds,
+            } => {
+                buffers.first = Lent::holding("file", file, dirt);
+                buffers.bytes = Lent::dirty("letters", *letters, dirt);
+                buffers.seconds = Lent::dirty("seconds", *seconds, dirt);
+            }
+            Asked::Judge {
+                rule, word, table, ..
+            } => {
+                buffers.first = Lent::holding("rule", rule, dirt);
+                buffers.word = Lent::holding("word", word, dirt);
+                buffers.numbers = Lent::dirty("table", *table, dirt);
+            }
+            Asked::Job { job, out } => {
+                buffers.first = Lent::holding("job", job, dirt);
+                buffers.bytes = Lent::dirty("out", *out, dirt);
+            }
+        }
+        buffers
+    }
+
+    /// No buffer at all.
+    fn empty(dirt: Dirt) -> Self {
+        const NONE: &str = "a buffer that is not lent";
+        Buffers {
+            first: Lent::dirty(NONE, 0, dirt),
+            word: Lent::dirty(NONE, 0, dirt),
+            bytes: Lent::dirty(NONE, 0, dirt),
+            seconds: Lent::dirty(NONE, 0, dirt),
+            numbers: Lent::dirty(NONE, 0, dirt),
+            answer: Lent::dirty(NONE, 0, dirt),
+        }
+    }
+
+    /// The call with one side's buffers.
+    fn call(&mut self, request: &Request, side: Side) -> Call<'_> {
+        let first = self.first.side(side);
+        let answer = self.answer.side(side);
+        match request.asked {
+            Asked::Rule { .. } => Call::ReadRule {
+                text: first,
+                answer,
+                nodes: self.numbers.side(side),
+            },
+            Asked::Day { .. } => Call::ReadDay {
+                file: first,
+                letters: self.bytes.side(side),
+                seconds: self.seconds.side(side),
+                answer,
+            },
+            Asked::Judge { limit, .. } => Call::Judge {
+                rule: first,
+                word: self.word.side(side),
+                limit,
+                table: self.numbers.side(side),
+                answer,
+            },
+            Asked::Job { .. } => Call::RunJob {
+                job: first,
+                out: self.bytes.side(side),
+                answer,
+            },
+        }
+    }
+
+    /// The first difference; the answer is looked at first, because it says the most.
+    fn difference(&self) -> Option<Difference> {
+        let answer = self.answer.difference();
+        answer
+            .or_else(|| self.numbers.difference())
+            .or_else(|| self.bytes.difference())
+            .or_else(|| self.seconds.difference())
+            .or_else(|| self.first.difference())
+            .or_else(|| self.word.difference())
+    }
+}

@@ -1,0 +1,119 @@
+//! The edges as requests to the library: the streams of `second edges`, and jobs.
+
+use super::call::{Callee, NODES};
+use super::job_edges;
+use super::lent::Dirt;
+use super::request::{Asked, Request};
+use crate::{edges, job};
+
+/// The streams of cases that `second edges` prints.
+const STREAMS: [&str; 5] = ["rules", "days", "judge", "judge-large", "known"];
+
+/// The seed of the noise in what is lent.
+const NOISE: u64 = 1;
+
+/// How many elements a buffer has beyond those it must have.
+const BEYOND: usize = 5;
+
+/// All the requests, one group after another.
+pub fn requests() -> Vec<Request> {
+    let mut requests = Vec::new();
+    for name in STREAMS {
+        let cases = edges::named(name).expect("the streams of edges are named");
+        let asked = |case| Asked::case(case, NODES + BEYOND);
+        requests.extend(cases.into_iter().map(asked).flat_map(in_all_dirt));
+    }
+    let jobs = job_edges::jobs().into_iter();
+    let jobs = jobs.chain(job_edges::readers_jobs()).flat_map(with_outs);
+    requests.extend(jobs.flat_map(in_all_dirt));
+    requests.extend(too_short_to_answer());
+    requests
+}
+
+/// A call in ones and in noise, its answer longer than it must be.
+fn in_all_dirt(asked: Asked) -> [Request; 2] {
+    let answer = asked.callee().answer_length() + BEYOND;
+    [Dirt::Ones, Dirt::Noise(NOISE)].map(|dirt| Request {
+        asked: asked.clone(),
+        answer,
+        dirt,
+    })
+}
+
+/// A job with buffers for its text that have none, one too few, enough and more.
+fn with_outs(bytes: Vec<u8>) -> Vec<Asked> {
+    let length = text_length(&bytes);
+    let mut outs = vec![0, length.saturating_sub(1), length, length + BEYOND];
+    outs.dedup();
+    let asked = |out| Asked::Job {
+        job: bytes.clone(),
+        out,
+    };
+    outs.into_iter().map(asked).collect()
+}
+
+/// How long the text of a job is; a refused one has none.
+pub fn text_length(bytes: &[u8]) -> usize {
+    job::judge_job(bytes).map_or(0, |report| report.lines().len())
+}
+
+/// Calls whose answer or nodes are too short, good ones and ones that would be refused.
+fn too_short_to_answer() -> Vec<Request> {
+    let mut requests = Vec::new();
+    for asked in good_and_bad_calls() {
+        for answer in 0..asked.callee().answer_length() {
+            let short = |request| Request { answer, ..request };
+            requests.extend(in_all_dirt(asked.clone()).map(short));
+        }
+        // Just as long as it must be.
+        let answer = asked.callee().answer_length();
+        let exact = |request| Request { answer, ..request };
+        requests.extend(in_all_dirt(asked).map(exact));
+    }
+    for text in [&b"!a"[..], b"", b")"] {
+        for nodes in [0, 1, 2, 4, NODES - 1, NODES] {
+            let text = text.to_vec();
+            let request = in_all_dirt(Asked::Rule { text, nodes });
+            let answer = Callee::ReadRule.answer_length() - 1;
+            requests.extend(request.clone().map(|request| Request { answer, ..request }));
+            requests.extend(request);
+        }
+    }
+    requests
+}
+
+/// For each call one that is accepted and one that is refused.
+fn good_and_bad_calls() -> Vec<Asked> {
+    let mut calls = Vec::new();
+    for text in [&b"!a"[..], b"A"] {
+        calls.push(Asked::Rule {
+            text: text.to_vec(),
+            nodes: NODES,
+        });
+        calls.push(Asked::Judge {
+            rule: text.to_vec(),
+            word: b"a".to_vec(),
+            limit: 7,
+            table: 16,
+        });
+        calls.push(Asked::Job {
+            job: job_edges::job(text, b"E\t0\ta\n"),
+            out: 64,
+        });
+    }
+    // Refused by 10, which alone changes the table.
+    calls.push(Asked::Judge {
+        rule: b"!a".to_vec(),
+        word: b"a".to_vec(),
+        limit: 6,
+        table: 16,
+    });
+    for file in [&b"E\t0\ta\n"[..], b"E\t0\tA\n"] {
+        calls.push(Asked::Day {
+            file: file.to_vec(),
+            letters: 3,
+            seconds: 3,
+        });
+    }
+    calls
+}

@@ -1,0 +1,21 @@
+//! The comparison of the proved library and the proved program with this program's own answers.
+//!
+//! All but `proved`, which links the library, can be used and tested without the proved code.
+
+pub mod call;
+pub mod check;
+pub mod commands;
+pub mod edge_requests;
+pub mod job_edges;
+pub mod lent;
+pub mod program;
+pub mod progress;
+#[cfg(feature = "proved")]
+#[allow(unsafe_code)]
+pub mod proved;
+pub mod random_jobs;
+pub mod random_requests;
+pub mod reference;
+pub mod request;
+pub mod run;
+pub mod tally;

@@ -1,0 +1,149 @@
+//! The proved library by its C interface, `include/wuzlevor.h`; all the unsafe code is here.
+
+use std::thread;
+
+use super::call::Call;
+
+/// The stack on which the library is called: it has to do with this much, whatever it is asked.
+const LIBRARY_STACK: usize = 512 * 1024;
+
+extern "C" {
+    fn wuz_read_rule(
+        text: *const u8,
+        text_len: usize,
+        answer: *mut u64,
+        answer_len: usize,
+        nodes: *mut u64,
+        nodes_len: usize,
+    );
+    fn wuz_read_day(
+        file: *const u8,
+        file_len: usize,
+        letters: *mut u8,
+        letters_len: usize,
+        seconds: *mut u32,
+        seconds_len: usize,
+        answer: *mut u64,
+        answer_len: usize,
+    );
+    fn wuz_judge(
+        rule: *const u8,
+        rule_len: usize,
+        word: *const u8,
+        word_len: usize,
+        limit: u64,
+        table: *mut u64,
+        table_len: usize,
+        answer: *mut u64,
+        answer_len: usize,
+    );
+    fn wuz_run_job(
+        job: *const u8,
+        job_len: usize,
+        out: *mut u8,
+        out_len: usize,
+        answer: *mut u64,
+        answer_len: usize,
+    );
+}
+
+/// Does a call on a small stack, in a thread with the case's name.
+///
+/// If the stack overflows, the message that ends everything has that name.
+pub fn run(case: &str, call: Call<'_>) {
+    let small = thread::Builder::new()
+        .name(case.to_string())
+        .stack_size(LIBRARY_STACK);
+    thread::scope(|scope| {
+        let called = small.spawn_scoped(scope, || run_here(call));
+        let thread = called.unwrap_or_else(|error| panic!("no thread for {case}: {error}"));
+        if thread.join().is_err() {
+            panic!("the library panicked in {case}");
+        }
+    });
+}
+
+/// Does a call on the stack that there is.
+fn run_here(call: Call<'_>) {
+    match call {
+        Call::ReadRule {
+            text,
+            answer,
+            nodes,
+        } => read_rule(text, answer, nodes),
+        Call::ReadDay {
+            file,
+            letters,
+            seconds,
+            answer,
+        } => read_day(file, letters, seconds, answer),
+        Call::Judge {
+            rule,
+            word,
+            limit,
+            table,
+            answer,
+        } => judge(rule, word, limit, table, answer),
+        Call::RunJob { job, out, answer } => run_job(job, out, answer),
+    }
+}
+
+// In each of the following the pointers and lengths are those of slices, and the slices that are
+// written are borrowed by nobody else: that is all that the C interface asks of its caller.
+
+fn read_rule(text: &[u8], answer: &mut [u64], nodes: &mut [u64]) {
+    unsafe {
+        wuz_read_rule(
+            text.as_ptr(),
+            text.len(),
+            answer.as_mut_ptr(),
+            answer.len(),
+            nodes.as_mut_ptr(),
+            nodes.len(),
+        )
+    }
+}
+
+fn read_day(file: &[u8], letters: &mut [u8], seconds: &mut [u32], answer: &mut [u64]) {
+    unsafe {
+        wuz_read_day(
+            file.as_ptr(),
+            file.len(),
+            letters.as_mut_ptr(),
+            letters.len(),
+            seconds.as_mut_ptr(),
+            seconds.len(),
+            answer.as_mut_ptr(),
+            answer.len(),
+        )
+    }
+}
+
+fn judge(rule: &[u8], word: &[u8], limit: u64, table: &mut [u64], answer: &mut [u64]) {
+    unsafe {
+        wuz_judge(
+            rule.as_ptr(),
+            rule.len(),
+            word.as_ptr(),
+            word.len(),
+            limit,
+            table.as_mut_ptr(),
+            table.len(),
+            answer.as_mut_ptr(),
+            answer.len(),
+        )
+    }
+}
+
+fn run_job(job: &[u8], out: &mut [u8], answer: &mut [u64]) {
+    unsafe {
+        wuz_run_job(
+            job.as_ptr(),
+            job.len(),
+            out.as_mut_ptr(),
+            out.len(),
+            answer.as_mut_ptr(),
+            answer.len(),
+        )
+    }
+}

@@ -1,0 +1,198 @@
+//! Random requests to the library: all four calls, and buffers of every length about the need.
+
+use super::call::NODES;
+use super::edge_requests::text_length;
+use super::job_edges;
+use super::lent::Dirt;
+use super::random_jobs::{self, deeply_nested, LENGTHS};
+use super::request::{Asked, Request};
+use crate::calls::Call;
+use crate::generate::{any_byte, change_byte};
+use crate::judge_edges::BAD_RULES;
+use crate::limits::{MAX_SPECIAL, MAX_WORD};
+use crate::random::Random;
+use crate::stream::Case;
+use crate::{day_edges, random_calls, random_days, random_rules, rule_edges, table};
+
+/// What any draw starts from: the edges, which also come as they are.
+pub struct Draws {
+    rules: Vec<Vec<u8>>,
+    days: Vec<Vec<u8>>,
+    jobs: Vec<Vec<u8>>,
+}
+
+/// The random source of a case, which depends on nothing but the seed and the case's number.
+pub fn source(seed: u64, number: usize) -> Random {
+    let mixed = Random::new(seed).bits().wrapping_add(number as u64);
+    Random::new(Random::new(mixed).bits())
+}
+
+impl Draws {
+    /// Gathers the edges.
+    pub fn new() -> Self {
+        let day = |case| match case {
+            Case::Day { bytes, .. } => Some(bytes),
+            _ => None,
+        };
+        Draws {
+            rules: rule_edges::texts(),
+            days: day_edges::cases().into_iter().filter_map(day).collect(),
+            jobs: job_edges::jobs(),
+        }
+    }
+
+    /// A random request.
+    pub fn request(&self, random: &mut Random) -> Request {
+        let asked = match random.below(20) {
+            0..=4 => self.rule(random),
+            5..=9 => self.day(random),
+            10..=15 => judgement(random),
+            _ => {
+                let job = self.job(random);
+                with_out(random, job)
+            }
+        };
+        lend(random, asked)
+    }
+
+    /// A rule text to read.
+    fn rule(&self, random: &mut Random) -> Asked {
+        let text = match random.below(24) {
+            0 => {
+                let more = random.below(2);
+                deeply_nested(random, more)
+            }
+            1..=6 => near_edge(random, &self.rules),
+            _ => random_rules::text(random),
+        };
+        let nodes = match random.below(16) {
+            0 => random.pick(&[0, 1, NODES / 2, NODES - 1]),
+            _ => NODES + random.below(5),
+        };
+        Asked::Rule { text, nodes }
+    }
+
+    /// A day to read.
+    fn day(&self, random: &mut Random) -> Asked {
+        if random.one_in(2) {
+            return Asked::case(random_days::case(random), NODES);
+        }
+        let file = if random.one_in(2) {
+            near_edge(random, &self.days)
+        } else {
+            random_days::day(random)
+        };
+        let n = file.iter().filter(|&&byte| byte == b'\n').count();
+        let mut length = || random.pick(&[n, n + 3, n, n + 3, n, n + 3, n.saturating_sub(1), 0]);
+        let (letters, seconds) = (length(), length());
+        Asked::Day {
+            file,
+            letters,
+            seconds,
+        }
+    }
+
+    /// A job, an edge or near to one now and then.
+    pub fn job(&self, random: &mut Random) -> Vec<u8> {
+        if random.one_in(8) {
+            near_edge(random, &self.jobs)
+        } else {
+            random_jobs::job(random)
+        }
+    }
+}
+
+impl Default for Draws {
+    fn default() -> Self {
+        Draws::new()
+    }
+}
+
+/// One of the edges, as it is or with one byte changed.
+fn near_edge(random: &mut Random, edges: &[Vec<u8>]) -> Vec<u8> {
+    let mut bytes = edges[random.below(edges.len())].clone();
+    if random.one_in(2) {
+        let byte = if random.one_in(2) {
+            any_byte(random)
+        } else {
+            random.pick(b"a\n\t01|!*()")
+        };
+        change_byte(random, &mut bytes, byte, usize::MAX);
+    }
+    bytes
+}
+
+/// A judge call: one of the stream's, one for a bad rule, or one with a word's length at a bound.
+fn judgement(random: &mut Random) -> Asked {
+    match random.below(12) {
+        0 => by_bad_rule(random),
+        1..=3 => at_bounds(random),
+        _ => Asked::case(random_calls::case(random), NODES),
+    }
+}
+
+/// A judge call whose rule is refused, and all else perhaps good.
+fn by_bad_rule(random: &mut Random) -> Asked {
+    Asked::Judge {
+        rule: random.pick(&BAD_RULES).to_vec(),
+        word: random.pick(&[&b""[..], b"ab", b"aB"]).to_vec(),
+        limit: random.pick(&[0, u64::MAX]),
+        table: random.pick(&[0, table::need(0, 2), table::need(8, 2)]),
+    }
+}
+
+/// A judge call with a word whose length is at a bound; so are its table and its limit.
+fn at_bounds(random: &mut Random) -> Asked {
+    let rule = if random.one_in(12) {
+        deeply_nested(random, 0)
+    } else {
+        random_calls::good_rule(random)
+    };
+    let n = random.pick(&LENGTHS);
+    let word = random_calls::word_of(random, &rule, n);
+    let (need, count) = if n > MAX_WORD {
+        // Refused, with a table and a limit that would do.
+        (table::need(MAX_SPECIAL, n), u64::MAX - 1)
+    } else {
+        let call = Call::new(&rule, &word);
+        (call.need, call.count)
+    };
+    Asked::Judge {
+        rule,
+        word,
+        limit: random.pick(&[0, count - 1, count, count + 1, u64::MAX]),
+        table: random.pick(&[need - 1, need, need + 5]),
+    }
+}
+
+/// A job with a buffer for its text: mostly enough, else one byte too few or none.
+pub fn with_out(random: &mut Random, job: Vec<u8>) -> Asked {
+    let length = text_length(&job);
+    let out = match random.below(8) {
+        0 => length.saturating_sub(1),
+        1 => 0,
+        2..=4 => length,
+        _ => length + 5,
+    };
+    Asked::Job { job, out }
+}
+
+/// Lends the call an answer, seldom too short a one, and dirt in everything.
+pub fn lend(random: &mut Random, asked: Asked) -> Request {
+    let need = asked.callee().answer_length();
+    let answer = if random.one_in(16) {
+        random.below(need)
+    } else {
+        need + random.below(5)
+    };
+    let dirt = if random.one_in(2) {
+        Dirt::Ones
+    } else {
+        Dirt::Noise(random.bits())
+    };
+    Request {
+        asked,
+        answer,
+        dirt,
+    }
+}

@@ -1,0 +1,120 @@
+//! The calls of the C interface as the second program answers them.
+//!
+//! Each gives its number, or none where a buffer is too short for any answer; then nothing changes.
+
+use super::call::{Call, Callee, NODES};
+use crate::rule::{Kind, Node};
+use crate::{day, job, judge, refusal::Reason, rule};
+
+/// Does a call.
+pub fn run(call: Call<'_>) -> Option<u32> {
+    match call {
+        Call::ReadRule {
+            text,
+            answer,
+            nodes,
+        } => read_rule(text, answer, nodes),
+        Call::ReadDay {
+            file,
+            letters,
+            seconds,
+            answer,
+        } => read_day(file, letters, seconds, answer),
+        Call::Judge {
+            rule,
+            word,
+            limit,
+            table,
+            answer,
+        } => run_judge(rule, word, limit, table, answer),
+        Call::RunJob { job, out, answer } => run_job(job, out, answer),
+    }
+}
+
+/// Reads a rule text, and writes two numbers for each of its nodes.
+fn read_rule(text: &[u8], answer: &mut [u64], nodes: &mut [u64]) -> Option<u32> {
+    let answer = answer.get_mut(..Callee::ReadRule.answer_length())?;
+    let nodes = nodes.get_mut(..NODES)?;
+    let rule = match rule::read(text) {
+        Ok(rule) => rule,
+        Err(refusal) => return Some(refuse(answer, refusal.number(), refusal.place)),
+    };
+    answer.copy_from_slice(&[0, 0, 0, 0, rule.m() as u64, rule.k() as u64]);
+    for (numbers, node) in nodes.chunks_exact_mut(2).zip(&rule.nodes) {
+        numbers.copy_from_slice(&record(node));
+    }
+    Some(0)
+}
+
+/// A node as the C interface writes it: its offset and the number of its kind.
+fn record(node: &Node) -> [u64; 2] {
+    let kind = match node.kind {
+        Kind::NoWord => 0,
+        Kind::EmptyWord => 1,
+        Kind::Union(..) => 2,
+        Kind::Intersection(..) => 3,
+        Kind::Concatenation(..) => 4,
+        Kind::Complement(_) => 5,
+        Kind::Star(_) => 6,
+        Kind::Letter(letter) => letter.into(),
+    };
+    [node.offset as u64, kind]
+}
+
+/// Reads a day file into the two buffers.
+fn read_day(
+    file: &[u8],
+    letters: &mut [u8],
+    seconds: &mut [u32],
+    answer: &mut [u64],
+) -> Option<u32> {
+    let answer = answer.get_mut(..Callee::ReadDay.answer_length())?;
+    match day::read(file, letters, seconds) {
+        Ok(n) => answer.copy_from_slice(&[0, 0, 0, 0, n as u64]),
+        Err(refusal) => return Some(refuse(answer, refusal.number(), refusal.place)),
+    }
+    Some(0)
+}
+
+/// Judges a word and writes the table.
+fn run_judge(
+    rule: &[u8],
+    word: &[u8],
+    limit: u64,
+    table: &mut [u64],
+    answer: &mut [u64],
+) -> Option<u32> {
+    let answer = answer.get_mut(..Callee::Judge.answer_length())?;
+    let judge::Answer {
+        number,
+        place,
+        found,
+        count,
+    } = judge::judge(rule, word, limit, table);
+    answer.copy_from_slice(&[number.into(), place as u64, found, count]);
+    Some(number)
+}
+
+/// Runs a job and writes its text.
+fn run_job(job: &[u8], out: &mut [u8], answer: &mut [u64]) -> Option<u32> {
+    let answer = answer.get_mut(..Callee::RunJob.answer_length())?;
+    let report = match job::judge_job(job) {
+        Ok(report) => report,
+        Err((number, place)) => return Some(refuse(answer, number, place)),
+    };
+    let text = report.lines();
+    let Some(written) = out.get_mut(..text.len()) else {
+        return Some(refuse(answer, Reason::BufferTooShort as u32, 0));
+    };
+    written.copy_from_slice(text.as_bytes());
+    answer.copy_from_slice(&[0, 0, report.found, report.count, text.len() as u64]);
+    Some(0)
+}
+
+/// Answers with a refusal whose values are all 0 but for number and place; gives the number.
+fn refuse(answer: &mut [u64], number: u32, place: usize) -> u32 {
+    answer.fill(0);
+    answer[0] = number.into();
+    answer[1] = place as u64;
+    number
+}

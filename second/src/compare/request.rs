@@ -1,0 +1,128 @@
+//! What is asked of the library: a call with its bytes, and how long its buffers are.
+
+use std::fmt;
+
+use super::call::Callee;
+use super::lent::Dirt;
+use crate::stream::Case;
+
+/// A call with the lengths of the buffers it is lent.
+#[derive(Clone, Debug, PartialEq, Eq)]
+pub struct Request {
+    pub asked: Asked,
+    /// The length of the lent answer.
+    pub answer: usize,
+    pub dirt: Dirt,
+}
+
+/// The bytes of a call, and the lengths of its own buffers.
+#[derive(Clone, Debug, PartialEq, Eq)]
+pub enum Asked {
+    Rule {
+        text: Vec<u8>,
+        nodes: usize,
+    },
+    Day {
+        file: Vec<u8>,
+        letters: usize,
+        seconds: usize,
+    },
+    Judge {
+        rule: Vec<u8>,
+        word: Vec<u8>,
+        limit: u64,
+        table: usize,
+    },
+    Job {
+        job: Vec<u8>,
+        out: usize,
+    },
+}
+
+impl Asked {
+    /// A case of a stream; a rule's nodes get such a buffer.
+    pub fn case(case: Case, nodes: usize) -> Self {
+        match case {
+            Case::Rule(text) => Asked::Rule { text, nodes },
+            Case::Day {
+                letters,
+                seconds,
+                bytes,
+            } => Asked::Day {
+                file: bytes,
+                letters,
+                seconds,
+            },
+            Case::Judge {
+                table,
+                limit,
+                rule,
+                word,
+            } => Asked::Judge {
+                rule,
+                word,
+                limit,
+                table,
+            },
+        }
+    }
+
+    /// Which call it is.
+    pub fn callee(&self) -> Callee {
+        match self {
+            Asked::Rule { .. } => Callee::ReadRule,
+            Asked::Day { .. } => Callee::ReadDay,
+            Asked::Judge { .. } => Callee::Judge,
+            Asked::Job { .. } => Callee::RunJob,
+        }
+    }
+}
+
+/// Bytes with their number, escaped.
+pub fn shown_bytes(bytes: &[u8]) -> String {
+    format!("\"{}\" ({} bytes)", bytes.escape_ascii(), bytes.len())
+}
+
+impl fmt::Display for Asked {
+    fn fmt(&self, formatter: &mut fmt::Formatter) -> fmt::Result {
+        match self {
+            Asked::Rule { text, nodes } => {
+                write!(formatter, "text {}, nodes of {nodes}", shown_bytes(text))
+            }
+            Asked::Day {
+                file,
+                letters,
+                seconds,
+            } => {
+                write!(formatter, "file {}, ", shown_bytes(file))?;
+                write!(formatter, "letters of {letters}, seconds of {seconds}")
+            }
+            Asked::Judge {
+                rule,
+                word,
+                limit,
+                table,
+            } => {
+                let (rule, word) = (shown_bytes(rule), shown_bytes(word));
+                write!(formatter, "rule {rule}, word {word}, ")?;
+                write!(formatter, "limit {limit}, table of {table}")
+            }
+            Asked::Job { job, out } => write!(formatter, "job {}, out of {out}", shown_bytes(job)),
+        }
+    }
+}
+
+impl fmt::Display for Request {
+    fn fmt(&self, formatter: &mut fmt::Formatter) -> fmt::Result {
+        let (asked, answer) = (&self.asked, self.answer);
+        write!(
+            formatter,
+            "{}: {asked}, answer of {answer}, ",
+            asked.callee()
+        )?;
+        match self.dirt {
+            Dirt::Ones => write!(formatter, "all lent full of ones"),
+            Dirt::Noise(seed) => write!(formatter, "all lent full of noise from seed {seed}"),
+        }
+    }
+}

@@ -1,0 +1,229 @@
+//! One call and its comparison: libraries that do one thing wrong are found.
+
+use second::compare::call::{Call, NODES};
+use second::compare::check::check;
+use second::compare::lent::Dirt;
+use second::compare::reference;
+use second::compare::request::{Asked, Request};
+
+/// What a library does after it has done a call rightly.
+type Mistake = fn(&mut Call);
+
+/// Where a library that makes the mistake differs, whatever it is lent.
+fn place(asked: Asked, answer: usize, mistake: Mistake) -> Option<String> {
+    let places = [Dirt::Ones, Dirt::Noise(3)].map(|dirt| {
+        let request = Request {
+            asked: asked.clone(),
+            answer,
+            dirt,
+        };
+        let library = |_: &str, mut call: Call| {
+            reference::run(borrowed(&mut call));
+            mistake(&mut call);
+        };
+        let difference = check(&library, "a case", &request).difference;
+        difference.map(|difference| difference.place)
+    });
+    assert_eq!(places[0], places[1]);
+    places[0].clone()
+}
+
+/// The same call, lent on.
+fn borrowed<'a>(call: &'a mut Call<'_>) -> Call<'a> {
+    match call {
+        Call::ReadRule {
+            text,
+            answer,
+            nodes,
+        } => Call::ReadRule {
+            text,
+            answer,
+            nodes,
+        },
+        Call::ReadDay {
+            file,
+            letters,
+            seconds,
+            answer,
+        } => Call::ReadDay {
+            file,
+            letters,
+            seconds,
+            answer,
+        },
+        Call::Judge {
+            rule,
+            word,
+            limit,
+            table,
+            answer,
+        } => Call::Judge {
+            rule,
+            word,
+            limit: *limit,
+            table,
+            answer,
+        },
+        Call::RunJob { job, out, answer } => Call::RunJob { job, out, answer },
+    }
+}
+
+/// The answer of any call.
+fn answer<'a>(call: &'a mut Call<'_>) -> &'a mut [u64] {
+    match call {
+        Call::ReadRule { answer, .. }
+        | Call::ReadDay { answer, .. }
+        | Call::Judge { answer, .. }
+        | Call::RunJob { answer, .. } => answer,
+    }
+}
+
+/// Reads a rule of two nodes.
+fn rule() -> Asked {
+    Asked::Rule {
+        text: b"!a".to_vec(),
+        nodes: NODES + 2,
+    }
+}
+
+/// Reads a day of one event.
+fn day(letters: usize, seconds: usize) -> Asked {
+    Asked::Day {
+        file: b"E\t0\ta\n".to_vec(),
+        letters,
+        seconds,
+    }
+}
+
+/// Judges with a table of 16 needed numbers and 5 more; the count is 7.
+fn judgement(limit: u64) -> Asked {
+    Asked::Judge {
+        rule: b"!a".to_vec(),
+        word: b"a".to_vec(),
+        limit,
+        table: 21,
+    }
+}
+
+/// Runs document 01's whole case, whose text has 24 bytes.
+fn job(out: usize) -> Asked {
+    Asked::Job {
+        job: b"R\t!a\nE\t0\ta\n".to_vec(),
+        out,
+    }
+}
+
+/// One of each call, accepted.
+fn all() -> [Asked; 4] {
+    [rule(), day(3, 4), judgement(7), job(40)]
+}
+
+#[test]
+fn a_library_without_a_mistake_does_not_differ() {
+    for asked in all() {
+        for length in 0..10 {
+            assert_eq!(place(asked.clone(), length, |_| ()), None);
+        }
+    }
+}
+
+#[test]
+fn the_number_that_should_come_is_told() {
+    let number = |asked: Asked, answer: usize| {
+        let request = Request {
+            asked,
+            answer,
+            dirt: Dirt::Ones,
+        };
+        check(&|_, _| (), "a case", &request).number
+    };
+    assert_eq!(number(judgement(7), 4), Some(0));
+    assert_eq!(number(judgement(6), 4), Some(10));
+    assert_eq!(number(judgement(6), 3), None);
+    assert_eq!(number(job(0), 5), Some(15));
+}
+
+#[test]
+fn a_library_that_does_nothing_differs() {
+    for asked in all() {
+        let request = Request {
+            asked,
+            answer: 6,
+            dirt: Dirt::Ones,
+        };
+        let difference = check(&|_, _| (), "a case", &request).difference;
+        assert_eq!(
+            difference.unwrap().place,
+            "answer[0], lent with a length of 6"
+        );
+    }
+}
+
+#[test]
+fn every_element_of_the_answer_is_compared() {
+    for asked in all() {
+        for length in 1..9 {
+            let found = place(asked.clone(), length, |call| {
+                *answer(call).last_mut().unwrap() ^= 1;
+            });
+            let last = length - 1;
+            let expected = format!("answer[{last}], lent with a length of {length}");
+            assert_eq!(found, Some(expected));
+        }
+    }
+}
+
+#[test]
+fn every_buffer_is_compared_to_its_last_element() {
+    let mistake: Mistake = |call| match call {
+        Call::ReadRule { nodes, .. } => *nodes.last_mut().unwrap() ^= 1,
+        Call::ReadDay { letters, .. } => *letters.last_mut().unwrap() ^= 1,
+        Call::Judge { table, .. } => *table.last_mut().unwrap() ^= 1,
+        Call::RunJob { out, .. } => *out.last_mut().unwrap() ^= 1,
+    };
+    let places = ["nodes[129]", "letters[2]", "table[20]", "out[39]"];
+    for (asked, expected) in all().into_iter().zip(places) {
+        // With an answer that is long enough and with one that is not.
+        for length in [8, 3] {
+            let found = place(asked.clone(), length, mistake).unwrap();
+            assert!(found.starts_with(expected), "{found}");
+        }
+    }
+    let found = place(day(3, 4), 5, |call| match call {
+        Call::ReadDay { seconds, .. } => seconds[3] = 0,
+        _ => unreachable!("a day is read"),
+    });
+    assert!(found.unwrap().starts_with("seconds[3]"));
+}
+
+#[test]
+fn a_buffer_touched_on_a_refusal_is_found() {
+    let found = place(day(1, 0), 5, |call| match call {
+        Call::ReadDay { letters, .. } => letters[0] = b'a',
+        _ => unreachable!("a day is read"),
+    });
+    assert!(found.unwrap().starts_with("letters[0]"));
+    let found = place(job(23), 5, |call| match call {
+        Call::RunJob { out, .. } => out[0] = b'H',
+        _ => unreachable!("a job is run"),
+    });
+    assert!(found.unwrap().starts_with("out[0]"));
+    // On 10 all of the needed numbers are 0, and no other changes.
+    let mistakes: [(&str, Mistake); 3] = [
+        ("table[0]", |call| change_table(call, 0)),
+        ("table[15]", |call| change_table(call, 15)),
+        ("table[16]", |call| change_table(call, 16)),
+    ];
+    for (expected, mistake) in mistakes {
+        let found = place(judgement(6), 4, mistake);
+        assert!(found.unwrap().starts_with(expected));
+    }
+}
+
+/// Changes one bit of the table.
+fn change_table(call: &mut Call, at: usize) {
+    match call {
+        Call::Judge { table, .. } => table[at] ^= 1,
+        _ => unreachable!("a word is judged"),
+    }
+}

@@ -1,0 +1,123 @@
+//! Whole runs: what they print, how they end, and that they stop.
+
+use second::compare::call::{Call, Callee};
+use second::compare::check::Checked;
+use second::compare::commands::{edges, jobs, library, Cases};
+use second::compare::reference;
+use second::compare::run::{Label, Run};
+
+const CASES: Cases = Cases {
+    seed: 3,
+    count: 60,
+    first: 1,
+};
+
+/// A library that makes no mistake.
+fn right(_: &str, call: Call) {
+    reference::run(call);
+}
+
+/// A library that does nothing.
+fn idle(_: &str, _: Call) {}
+
+/// What a command prints, and whether all was well.
+fn printed(command: impl FnOnce(&mut Vec<u8>) -> std::io::Result<bool>) -> (String, bool) {
+    let mut output = Vec::new();
+    let well = command(&mut output).unwrap();
+    (String::from_utf8(output).unwrap(), well)
+}
+
+/// The last line of a text.
+fn last_line(text: &str) -> &str {
+    text.lines().last().unwrap()
+}
+
+#[test]
+fn a_right_library_passes() {
+    let (text, well) = printed(|output| library(&right, CASES, "compare library", output));
+    assert_eq!((last_line(&text), well), ("60 passed, 0 failed", true));
+    for callee in Callee::LIBRARY {
+        assert!(text.contains(&format!("{callee}: ")), "{text}");
+    }
+    assert!(!text.contains("DIFFERENCE"));
+}
+
+#[test]
+fn a_wrong_library_fails_and_ends_the_run() {
+    let (text, well) = printed(|output| library(&idle, CASES, "compare library", output));
+    assert!(last_line(&text).ends_with(" passed, 10 failed"), "{text}");
+    assert!(!well && text.contains("stopped after 10 differences"));
+    assert_eq!(text.matches("DIFFERENCE in case ").count(), 10);
+}
+
+#[test]
+fn a_difference_can_be_shown_again() {
+    let (text, _) = printed(|output| library(&idle, CASES, "compare library", output));
+    let found = text.lines().find(|line| line.contains("DIFFERENCE"));
+    let name = found.unwrap().trim_start_matches("DIFFERENCE in case ");
+    let number = name.trim_end_matches(" of seed 3");
+    assert!(text.contains(&format!("again:    compare library 3 1 {number}\n")));
+    let only = Cases {
+        count: 1,
+        first: number.parse().unwrap(),
+        ..CASES
+    };
+    let (again, _) = printed(|output| library(&idle, only, "compare library", output));
+    let difference = |text: &str| text.split("  again:").next().unwrap().to_string();
+    assert_eq!(difference(&again), difference(&text));
+}
+
+#[test]
+fn no_case_is_no_success() {
+    let none = Cases { count: 0, ..CASES };
+    let (text, well) = printed(|output| library(&right, none, "compare library", output));
+    assert_eq!((text.as_str(), well), ("0 passed, 0 failed\n", false));
+}
+
+#[test]
+fn all_edges_pass_and_give_every_number() {
+    let (text, well) = printed(|output| edges(&right, "compare edges", output));
+    assert!(well, "{text}");
+    assert!(last_line(&text).ends_with(" passed, 0 failed"));
+    let (text, well) = printed(|output| edges(&idle, "compare edges", output));
+    assert!(!well && text.contains("again:    compare edges\n"));
+}
+
+#[test]
+fn jobs_go_through_the_program_and_the_library() {
+    let second = env!("CARGO_BIN_EXE_second").as_ref();
+    let command = "compare jobs second";
+    let (text, well) = printed(|output| jobs(&right, second, CASES, command, output));
+    assert_eq!((last_line(&text), well), ("60 passed, 0 failed", true));
+    assert!(text.contains("wuz_run_job: 60 cases\n") && text.contains("the program: 60 cases\n"));
+    let (text, well) = printed(|output| jobs(&idle, second, CASES, command, output));
+    assert!(!well && text.contains("called:   wuz_run_job: job \""));
+    let wrong = "/bin/true".as_ref();
+    let (text, well) = printed(|output| jobs(&right, wrong, CASES, command, output));
+    assert!(!well && text.contains("called:   the program: input \""));
+    assert!(text.contains("again:    compare jobs second 3 1 1\n"));
+}
+
+#[test]
+fn a_number_that_never_came_is_a_failure() {
+    let mut output = Vec::new();
+    let mut run = Run::new(&mut output);
+    let label = Label {
+        name: "a case".into(),
+        again: "compare".into(),
+    };
+    for number in Callee::ReadDay.outcomes() {
+        if number != Some(14) {
+            let checked = Checked {
+                callee: Callee::ReadDay,
+                number,
+                difference: None,
+            };
+            run.add(&label, &[(checked, &"a day")]).unwrap();
+        }
+    }
+    assert!(!run.finish(&[Callee::ReadDay]).unwrap());
+    let text = String::from_utf8(output).unwrap();
+    assert!(text.contains("MISSING: wuz_read_day never had refusal 14\n"));
+    assert_eq!(last_line(&text), "6 passed, 1 failed");
+}

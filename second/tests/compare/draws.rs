@@ -1,0 +1,151 @@
+//! What is drawn for the library: fixed by seed and number, and at every bound.
+
+use std::collections::BTreeSet;
+
+use second::compare::call::NODES;
+use second::compare::lent::Dirt;
+use second::compare::random_requests::{source, Draws};
+use second::compare::request::{Asked, Request};
+use second::job;
+use second::judge::judge;
+use second::rule;
+
+/// Draws the first requests of a seed.
+fn requests(seed: u64, count: usize) -> Vec<Request> {
+    let draws = Draws::new();
+    let request = |number| draws.request(&mut source(seed, number));
+    (1..=count).map(request).collect()
+}
+
+#[test]
+fn seed_and_number_fix_a_request() {
+    let (few, many) = (requests(5, 20), requests(5, 40));
+    assert_eq!(few, many[..20]);
+    assert_ne!(few, requests(6, 20));
+    let again = Draws::new().request(&mut source(5, 40));
+    assert_eq!(again, many[39]);
+}
+
+/// Adds the name of a bound if it is met.
+fn note(bounds: &mut BTreeSet<String>, met: bool, name: impl Into<String>) {
+    if met {
+        bounds.insert(name.into());
+    }
+}
+
+/// Notes the bounds of a rule text.
+fn note_rule(bounds: &mut BTreeSet<String>, text: &[u8], nodes: usize) {
+    let length = text.len();
+    note(
+        bounds,
+        (254..=257).contains(&length),
+        format!("rule of {length}"),
+    );
+    note(bounds, nodes == NODES - 1, "nodes short");
+    note(bounds, nodes > NODES, "nodes long");
+    match rule::read(text) {
+        Ok(rule) => {
+            note(bounds, rule.m() >= 63, format!("m {}", rule.m()));
+            note(bounds, rule.k() == 7, "k 7");
+            note(bounds, length == 255, "sentence of 255");
+            note(bounds, text.starts_with(&[b'('; 127]), "127 nested");
+        }
+        Err(refusal) => note(bounds, true, format!("rule {}", refusal.number())),
+    }
+}
+
+/// Notes the bounds of a day.
+fn note_day(bounds: &mut BTreeSet<String>, file: &[u8], letters: usize, seconds: usize) {
+    let n = file.iter().filter(|&&byte| byte == b'\n').count();
+    note(bounds, [255, 256].contains(&n), format!("{n} lines"));
+    let length = file.len();
+    note(
+        bounds,
+        [2_550, 2_551].contains(&length),
+        format!("day of {length}"),
+    );
+    for (name, buffer) in [("letters", letters), ("seconds", seconds)] {
+        note(bounds, n > 1 && buffer == 0, format!("{name} none"));
+        note(bounds, buffer + 1 == n, format!("{name} short"));
+        note(bounds, buffer == n, format!("{name} exact"));
+        note(bounds, buffer == n + 3, format!("{name} long"));
+    }
+    note(bounds, letters != seconds, "buffers differ");
+}
+
+/// Notes the bounds of a judge call.
+fn note_judge(bounds: &mut BTreeSet<String>, rule: &[u8], word: &[u8], limit: u64, table: usize) {
+    let n = word.len();
+    note(bounds, true, format!("n {n}"));
+    let Ok(reading) = rule::read(rule) else {
+        return;
+    };
+    let need = (reading.k() + 1) * (n + 1) * 4;
+    note(bounds, table + 1 == need, "table short");
+    note(bounds, table == need, "table exact");
+    note(bounds, table == need + 5, "table long");
+    note(bounds, n == 255 && reading.m() == 64, "largest");
+    let count = judge(rule, word, u64::MAX, &mut vec![0; need]).count;
+    note(bounds, limit == 0, "limit 0");
+    note(bounds, limit + 1 == count, "limit below");
+    note(bounds, limit == count, "limit exact");
+    note(bounds, limit == count + 1, "limit above");
+}
+
+/// Notes the bounds of a job.
+fn note_job(bounds: &mut BTreeSet<String>, bytes: &[u8], out: usize) {
+    note(bounds, bytes.len() > 2_809, "job beyond");
+    note(bounds, bytes.contains(&0), "job with NUL");
+    note(bounds, bytes.contains(&255), "job with high byte");
+    note(bounds, bytes.contains(&b'\r'), "job with CR");
+    match job::judge_job(bytes) {
+        Ok(report) => {
+            let length = report.lines().len();
+            note(bounds, out == 0, "out none");
+            note(bounds, out + 1 == length, "out short");
+            note(bounds, out == length, "out exact");
+            note(bounds, out == length + 5, "out long");
+        }
+        Err((number, _)) => note(bounds, true, format!("job {number}")),
+    }
+}
+
+#[test]
+fn every_bound_is_drawn() {
+    let mut bounds = BTreeSet::new();
+    for request in requests(1, 6_000) {
+        note(&mut bounds, request.dirt == Dirt::Ones, "ones");
+        note(&mut bounds, request.dirt != Dirt::Ones, "noise");
+        let need = request.asked.callee().answer_length();
+        note(&mut bounds, request.answer < need, "answer short");
+        note(&mut bounds, request.answer > need, "answer long");
+        match &request.asked {
+            Asked::Rule { text, nodes } => note_rule(&mut bounds, text, *nodes),
+            Asked::Day {
+                file,
+                letters,
+                seconds,
+            } => note_day(&mut bounds, file, *letters, *seconds),
+            Asked::Judge {
+                rule,
+                word,
+                limit,
+                table,
+            } if *limit < u64::MAX => note_judge(&mut bounds, rule, word, *limit, *table),
+            Asked::Judge { .. } => note(&mut bounds, true, "limit highest"),
+            Asked::Job { job, out } => note_job(&mut bounds, job, *out),
+        }
+    }
+    let expected =
+        "rule of 254;rule of 255;rule of 256;127 nested;nodes short;nodes long;m 63;m 64;\
+        k 7;sentence of 255;rule 5;rule 6;255 lines;256 lines;day of 2550;day of 2551;letters none;\
+        letters short;letters exact;letters long;seconds none;seconds short;seconds exact;\
+        seconds long;buffers differ;n 0;n 1;n 63;n 64;n 65;n 127;n 128;n 254;n 255;n 256;\
+        table short;table exact;table long;largest;limit 0;limit below;limit exact;limit above;\
+        limit highest;job beyond;job with NUL;job with high byte;job with CR;out none;out short;\
+        out exact;out long;job 1;job 2;job 3;job 4;job 5;job 6;job 11;job 12;job 13;job 14;job 16;\
+        ones;noise;answer short;answer long";
+    for bound in expected.split(';') {
+        assert!(bounds.contains(bound), "{bound} was not drawn");
+    }
+}

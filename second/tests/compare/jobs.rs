@@ -1,0 +1,43 @@
+//! The edges of jobs, by what document 01 says of them.
+
+use second::compare::job_edges::jobs;
+use second::job::{output, read};
+
+/// Checks that a job is among the edges, and how the program's text for it begins.
+fn check_among(jobs: &[Vec<u8>], job: &[u8], printed: &str) {
+    assert!(jobs.contains(&job.to_vec()), "{}", job.escape_ascii());
+    let output = output(&read(job).unwrap());
+    assert!(output.starts_with(printed), "{output}");
+}
+
+#[test]
+fn the_whole_case_comes_first() {
+    let first = &jobs()[0];
+    assert_eq!(first, b"R\t!a\nE\t0\ta\n");
+    assert_eq!(output(first), "H\t1\t2\t1\t2\t7\nS\t0\t0\nS\t1\t1\n");
+}
+
+#[test]
+fn the_edges_that_document_01_names_are_there() {
+    let jobs = jobs();
+    check_among(&jobs, b"R\t1\n", "H\t0\t1\t0\t1\t2\nS\t0\t0\n");
+    check_among(&jobs, b"R\t!0\nE\t0\ta\nE\t1\tb\n", "H\t2\t2\t1\t6\t12\n");
+    check_among(&jobs, b"", "X\t16\t0\n");
+    check_among(&jobs, b"R\t\n", "X\t1\t0\n");
+    check_among(&jobs, b"R\ta\nE\t86400\ta\n", "X\t13\t1\n");
+    check_among(&jobs, b"R\ta\nE\t100000\ta\n", "X\t12\t1\n");
+    let day = "E\t86399\ta\n".repeat(255);
+    let stars = format!("R\ta{}\n{day}", "*".repeat(63));
+    check_among(&jobs, stars.as_bytes(), "H\t255\t64\t0\t32896\t");
+    let nested = format!("R\t{}a{}\n{day}", "(".repeat(127), ")".repeat(127));
+    check_among(&jobs, nested.as_bytes(), "H\t255\t1\t0\t255\t511\n");
+    check_among(&jobs, format!("{nested}E").as_bytes(), "X\t11\t0\n");
+}
+
+#[test]
+fn the_longest_text_has_every_span_and_the_room_that_the_c_interface_names() {
+    let texts: Vec<String> = jobs().iter().map(|job| output(job)).collect();
+    let longest = texts.iter().max_by_key(|text| text.len()).unwrap();
+    assert_eq!(longest.lines().count(), 1 + 256 * 257 / 2);
+    assert!(longest.len() <= 328_985);
+}

@@ -1,0 +1,10 @@
+//! The machinery of the binary `compare`, without the proved library: what it draws, and what it
+//! finds where a library or a program does something wrong.
+
+mod check;
+mod commands;
+mod draws;
+mod jobs;
+mod lent;
+mod program;
+mod reference;
