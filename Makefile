@@ -1,11 +1,24 @@
 # The project's commands. `make` alone lists them.
-.PHONY: help test prove second compare
+.PHONY: help run test prove library second compare
+SHELL := /bin/bash
+.SHELLFLAGS := -o pipefail -c
 
 help:
-	@echo "make test      the gate: formatting, proofs, must-fail edits, the second program's tests and comparisons"
+	@echo "make run       proves what is not proved yet, then runs the program on the worked day of README.md and shows the list"
+	@echo "make test      the gate: formatting, proofs, must-fail edits, examples, and every comparison with the second program"
 	@echo "make prove     the proofs alone, from what has changed"
+	@echo "make library   the static library for C: target/staticlib/libexports.a, with include/wuzlevor.h"
 	@echo "make second    builds the second program: second/target/release/second"
-	@echo "make compare   more random cases for the definitions and the proved calls against the second program; SEED=n for others"
+	@echo "make compare   more random cases against the second program: N=n library calls and n/10 jobs, SEED=n for others"
+
+EXAMPLE ?= examples/held_open.job
+run:
+	@echo "proving what is not proved yet: up to 5 minutes the first time, a crate a line"
+	@rt check checker | grep '^rt:'
+	@echo "the job, $(EXAMPLE):"
+	@cat $(EXAMPLE)
+	@echo "the list:"
+	@target/bin/checker <$(EXAMPLE)
 
 test:
 	@scripts/test
@@ -13,11 +26,17 @@ test:
 prove:
 	rt check
 
+library:
+	rt staticlib exports
+
 second:
 	cd second && cargo build --offline --release
 
 SEED ?= 2
+N ?= 200000
 compare:
 	scripts/compare_definitions $(SEED) 400 400
-	rt check known_days
-	scripts/compare_answers $(SEED) 1000
+	rt check known_days checker
+	scripts/compare_answers $(SEED) 100
+	rt staticlib exports
+	scripts/compare_proved $(SEED) $(N) $$(($(N) / 10))
