@@ -8,3 +8,4 @@ mod Rows
 pub mod Answered
 pub mod Determined
 pub mod Results
+mod Edges
