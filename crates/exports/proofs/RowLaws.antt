@@ -6,8 +6,9 @@ use mathlib.Core.Path.{_≡_, refl, sym, ap, ap₂, _∙_}
 use mathlib.Core.List.{List, [], _∷_, _++_}
 use lib.ListN.{length, take, drop, getD, set, length-append, length-set, drop-of-length-le}
 use lib.Seq.{sets, sets-eq, drop-cons, set-append-seam, append-snoc, length-take-le, getD-take}
+use Rattle.regex.specs.KindNumber.{kindNumber}
 use Rattle.regex.specs.declared.Node.{Node}
-use Rattle.exports.specs.Told.{over, kindNumber, nodeRow}
+use Rattle.exports.specs.Told.{over, nodeRow}
 
 pub over-sets : (row old : List ℕ) → length row ≤ length old → sets old 0 row ≡ over row old
 over-sets row old h =

@@ -2,8 +2,7 @@
 use Prim.Native.Nat.{ℕ}
 use mathlib.Core.List.{List, [], _∷_, _++_}
 use lib.ListN.{length, take, drop}
-use Rattle.regex.specs.declared.Kind.{Kind}
-use Rattle.regex.specs.declared.Kind.the-variants.{Empty, Epsilon, Letter, Union, Intersection, Concatenation, Complement, Star}
+use Rattle.regex.specs.KindNumber.{kindNumber}
 use Rattle.regex.specs.declared.Node.{Node}
 use Rattle.rule.specs.RuleAnswer.{RuleAnswer}
 use Rattle.day.specs.DayAnswer.{DayAnswer}
@@ -13,17 +12,6 @@ use Rattle.job.specs.JobAnswer.{JobAnswer}
 -- a row of numbers at the front of a buffer, which keeps what lies beyond
 abbrev pub over : List ℕ → List ℕ → List ℕ
 over row old = row ++ drop (length row) old
-
--- wuzlevor.h: "Kinds: a letter's byte, or 0 empty, 1 epsilon, 2 union, 3 intersection, 4 concatenation, 5 complement, 6 star"
-abbrev pub kindNumber : Kind → ℕ
-kindNumber Empty = 0
-kindNumber Epsilon = 1
-kindNumber Union = 2
-kindNumber Intersection = 3
-kindNumber Concatenation = 4
-kindNumber Complement = 5
-kindNumber Star = 6
-kindNumber (Letter c) = c
 
 -- wuzlevor.h: "for each node its byte offset and its kind"
 unfoldable pub nodeRow : List Node → List ℕ

@@ -1,11 +1,11 @@
 // Rows of numbers at the front of a buffer.
-use regex::Kind;
 use regex::Node;
+use regex::kind_number;
 ghost use mathlib.Core.Path.{_≡_};
 ghost use mathlib.Core.List.{[], _∷_};
 ghost use Prim.Native.Nat.{_≤_};
 ghost use lib.ListN.{length, take};
-ghost use Rattle.exports.specs.Told.{over, kindNumber, nodeRow};
+ghost use Rattle.exports.specs.Told.{over, nodeRow};
 
 // Number, place, found and count.
 pub fn write_four(answer: &mut [u64], number: u64, place: u64, found: u64, count: u64)
@@ -42,22 +42,6 @@ pub fn write_six(
 {
     write_five(answer, number, place, found, count, m);
     answer[5] = k;
-}
-
-// The number of a kind: a letter's is its byte.
-fn kind_number(kind: Kind) -> u64
-    ensures { λ r. ⌜ r ≡ kindNumber kind ⌝ }
-{
-    match kind {
-        Kind::Empty => 0,
-        Kind::Epsilon => 1,
-        Kind::Union => 2,
-        Kind::Intersection => 3,
-        Kind::Concatenation => 4,
-        Kind::Complement => 5,
-        Kind::Star => 6,
-        Kind::Letter(letter) => letter as u64,
-    }
 }
 
 // Offset and kind of the first m records.

@@ -2,6 +2,7 @@
 pub mod Tree
 pub mod Grammar
 pub mod Lang
+pub mod KindNumber
 -- The same by computation.
 pub mod Accept
 pub mod Bytes

@@ -1,4 +1,6 @@
 // Regular expressions: the records of their nodes, and the states of the scan over a rule text, whose theory stands here too.
+ghost use mathlib.Core.Path.{_≡_};
+ghost use Rattle.regex.specs.KindNumber.{kindNumber};
 
 // What a node is: `0` is empty (no word), `1` is epsilon (the empty word), and a letter's kind carries the letter.
 pub enum Kind {
@@ -16,6 +18,22 @@ pub enum Kind {
 pub struct Node {
     pub offset: usize,
     pub kind: Kind,
+}
+
+// The number of a kind: a letter's is its byte.
+pub fn kind_number(kind: Kind) -> u64
+    ensures { λ r. ⌜ r ≡ kindNumber kind ⌝ }
+{
+    match kind {
+        Kind::Empty => 0,
+        Kind::Epsilon => 1,
+        Kind::Union => 2,
+        Kind::Intersection => 3,
+        Kind::Concatenation => 4,
+        Kind::Complement => 5,
+        Kind::Star => 6,
+        Kind::Letter(letter) => letter as u64,
+    }
 }
 
 // How far a scan has come: the open parentheses, whether an operand has just ended, and the nodes and special nodes so far.

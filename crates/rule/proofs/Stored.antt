@@ -9,6 +9,7 @@ use lib.Seq.{sets, sets-eq, drop-at, take-suc, take-suc-set, take-all}
 use borrow.Author.Tests.{lt-ltb, ne-eqb}
 use Rattle.event.specs.Event.{isEvent}
 use Rattle.event.proofs.EventLaws.{event-between}
+use Rattle.regex.specs.KindNumber.{kindNumber}
 use Rattle.regex.specs.Tree.{Tree, size, records, nodeRecord}
 use Rattle.regex.specs.Grammar.{Level, Reads, alt-conj, alt-bar, conj-seq, conj-amp, seq-pre, seq-more}
 use Rattle.regex.specs.Grammar.{pre-post, pre-bang, post-atom, post-star, atom-letter, atom-empty, atom-epsilon, atom-group}
@@ -19,7 +20,7 @@ use Rattle.regex.specs.declared.Node.{Node}
 use Rattle.regex.proofs.RecordLaws.{records-length}
 use Rattle.regex.proofs.Parses.{pushes, parse-whole}
 use Rattle.rule.specs.RuleAnswer.{unused}
-use Rattle.rule.specs.Reader.{State, Done, Records, add, kindNumber, kindOf, nodesOf, Written}
+use Rattle.rule.specs.Reader.{State, Done, Records, add, kindOf, nodesOf, Written}
 
 -- ---- records pushed one after another
 -- the numbers of records

@@ -5,6 +5,7 @@ use mathlib.Core.List.{List, [], _∷_, _++_}
 use mathlib.Core.Bool.{cond}
 use lib.ListN.{length, set}
 use lib.Dec.{ltb, eqb}
+use Rattle.regex.specs.KindNumber.{kindNumber}
 use Rattle.regex.specs.Tree.{Tree, size, records}
 use Rattle.regex.specs.Grammar.{Alt, Reads}
 use Rattle.regex.specs.Parse.{Call, alt, altRest, conj, conjRest, seq, seqRest, pre, post, postRest, atom, measure, parse}
@@ -14,17 +15,7 @@ use Rattle.regex.specs.declared.Node.{Node}
 use Rattle.rule.specs.RuleAnswer.{unused}
 use Rattle.rule.specs.declared.levels.Reading.{Reading}
 
--- a kind as a number, and back
-abbrev pub kindNumber : Kind → ℕ
-kindNumber Empty = 0
-kindNumber Epsilon = 1
-kindNumber Union = 2
-kindNumber Intersection = 3
-kindNumber Concatenation = 4
-kindNumber Complement = 5
-kindNumber Star = 6
-kindNumber (Letter b) = b
-
+-- the kind that a number stands for
 abbrev pub kindOf : ℕ → Kind
 kindOf k =
     cond (eqb k 0) Empty

@@ -3,9 +3,9 @@
 // megabytes of stack.
 use crate::bytes::is_start;
 use crate::records::nodes_of;
-use crate::records::number_of;
 use regex::Kind;
 use regex::Node;
+use regex::kind_number;
 ghost use mathlib.Core.Path.{_≡_};
 ghost use Prim.Native.Nat.{_+_, _≤_, _<_};
 ghost use lib.ListN.{length, getD};
@@ -58,7 +58,7 @@ fn push(records: &mut [u64], r: Reading, offset: usize, kind: Kind) -> Reading
     let n = r.written;
     if n < 64 {
         records[2 * n] = offset as u64;
-        records[2 * n + 1] = number_of(kind);
+        records[2 * n + 1] = kind_number(kind);
         Reading {
             written: n + 1,
             offset: r.offset,

@@ -3,23 +3,7 @@ use regex::Kind;
 use regex::Node;
 ghost use mathlib.Core.Path.{_≡_};
 ghost use lib.ListN.{length};
-ghost use Rattle.rule.specs.Reader.{kindNumber, kindOf, nodesOf};
-
-// The number of a kind: a letter's is its byte.
-pub fn number_of(kind: Kind) -> u64
-    ensures { λ r. ⌜ r ≡ kindNumber kind ⌝ }
-{
-    match kind {
-        Kind::Empty => 0,
-        Kind::Epsilon => 1,
-        Kind::Union => 2,
-        Kind::Intersection => 3,
-        Kind::Concatenation => 4,
-        Kind::Complement => 5,
-        Kind::Star => 6,
-        Kind::Letter(letter) => letter as u64,
-    }
-}
+ghost use Rattle.rule.specs.Reader.{kindOf, nodesOf};
 
 // The kind that a number stands for.
 fn kind_of(number: u64) -> Kind

@@ -20,5 +20,5 @@ push-spec =
     (λ c. let a = c .before .before .before .args in omega (arith, length-set (a .records .now) (2 * a .r .written) (a .offset)))
     (λ c. search needs)
     (λ c. simp length-set)
-    (λ c. simp (lt-ltb (c .before .before .before .args .r .written) 64 (c .before .if1 .taken), c .number-of .ensures))
+    (λ c. simp (lt-ltb (c .before .before .before .args .r .written) 64 (c .before .if1 .taken), c .kind-number .ensures))
     (λ c. simp (le-ltb (c .before .before .args .r .written) 64 (c .if1 .left))))
