@@ -14,7 +14,7 @@ help:
 EXAMPLE ?= examples/held_open.job
 run:
 	@echo "proving what is not proved yet: up to 5 minutes the first time, a crate a line"
-	@rt check checker | grep '^rt:'
+	@rt check checker | grep -E '^rt:|error'
 	@echo "the job, $(EXAMPLE):"
 	@cat $(EXAMPLE)
 	@echo "the list:"

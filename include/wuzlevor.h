@@ -1,32 +1,44 @@
 /* Wuzlevor, the day checker of an office-door reader line: the C interface of the proved library, libexports.a.
  *
- * Buffers. Each is a pointer and the number of its elements. No pointer is NULL, even where the number is 0; each points to that many
- * elements; a buffer that a call writes overlaps no other buffer of the call. The caller keeps all of them: nothing is allocated, nothing
- * is kept between calls, and calls with different buffers may run in different threads.
+ * Texts. A rule is a text of letters a to z (events), 0 (no word), 1 (the empty word), | (or), & (and), ! (not), * (any number of times) and
+ * parentheses; two rules side by side are one after the other. From loosest to tightest: |, &, side by side, ! in front, * behind. A rule's
+ * nodes are its letters, 0s, 1s and operators, "side by side" included.
+ * A day file has a line for each event: E, tab, the second of the day in decimal, tab, the event's letter, newline. A job is a line R, tab,
+ * rule, newline, and then a day file.
+ * Span (i, j) of a word or a day of n events, 0 <= i <= j <= n, is the events after the first i up to and including the j-th.
+ *
+ * Buffers. Each is a pointer and the number of its elements. No pointer is NULL, even where the number is 0; each is aligned for its
+ * elements and points to that many; a buffer that a call writes overlaps no other buffer of the call. What the calls do otherwise is
+ * undefined. Nothing is allocated or kept between calls, and calls with different buffers may run in different threads. The calls have run
+ * in threads of 512 KiB of stack; no bound of it is proved.
  *
  * Answers. Every call writes the first elements of `answer`: number, place, found, count, and then values of its own. What follows them
  * in `answer` is not touched. If `answer`, or `nodes` of wuz_read_rule, is shorter than the call asks for, the call does nothing: no
- * buffer changes, `answer` included.
+ * buffer changes, `answer` included. Where that could happen, set answer[0] to WUZ_UNANSWERED before the call.
  *
- * Numbers. 0 is acceptance. A refusal has the first number below that fits, with place, found, count and the call's own values 0 unless
- * said here. No buffer but `answer` changes on a refusal, except the table on 10.
+ * Numbers. 0 is acceptance. On a refusal place, found, count and the call's own values are 0 unless said here, and no buffer but
+ * `answer` changes, except the table on 10.
  *
- *    1  the rule is empty
- *    2  the rule is over 255 bytes
- *    3  the rule has a byte that no rule may have; place: the offset of the first one
- *    4  the rule is no sentence; place: the length of its longest beginning that some sentence also has
- *    5  the rule has over 64 nodes
- *    6  the rule has over 7 of the signs & and !
- *    7  the word is over 255 events
- *    8  the word has a byte outside a to z; place: the offset of the first one
- *    9  the table is too short: it needs (k + 1) * (n + 1) * 4 numbers
- *   10  the work count is above the limit; count: the limit; the needed numbers of the table are all 0
- *   11  the day file is over 2,550 bytes
- *   12  a line of the day is not of the form; place: the line, from 1
+ *   the job's first line
+ *   16  it is not R, tab, bytes up to a newline
+ *   then the rule: the first of these that fits
+ *    1  it is empty
+ *    2  it is over 255 bytes
+ *    3  it has a byte that no rule may have; place: the offset of the first one
+ *    4  it is no sentence, which is a text formed as above; place: the length of its longest beginning that some sentence also has
+ *    5  it has over 64 nodes
+ *    6  it has over 7 nodes & and !
+ *   then the day: 11; then its lines in turn, and the first bad line is told, in a line 12 before 13; 15 last
+ *   11  the file is over 2,550 bytes
+ *   12  a line is not of the form; place: the line, from 1
  *   13  a second is over 86,399 or below the line before; place: the line
- *   14  a 256th line has begun; place: 256
- *   15  a buffer for the answer is too short
- *   16  the job's first line is not R, tab, bytes up to a newline
+ *   14  a 256th line has begun, whatever stands in it; place: 256
+ *   15  `letters` or `seconds` is shorter than the day; of wuz_run_job, after all else: `out` is shorter than the text
+ *   or, for wuz_judge, after the rule: the first of these that fits
+ *    7  the word is over 255 events
+ *    8  it has a byte outside a to z; place: the offset of the first one
+ *    9  the table has fewer numbers than are needed
+ *   10  the work count is above the limit; count: the limit; the needed numbers of the table are all 0
  */
 #ifndef WUZLEVOR_H
 #define WUZLEVOR_H
@@ -45,33 +57,41 @@ extern "C" {
 #define WUZ_JOB_ANSWER 5
 #define WUZ_NODES 128
 
-/* The most that a day, the table of a judgement and the text of a job can take. */
+/* No number of an answer. */
+#define WUZ_UNANSWERED UINT64_MAX
+
+/* The most that a day, the table of a judgement, its work count and the text of a job can be. */
 #define WUZ_MOST_EVENTS 255
 #define WUZ_MOST_TABLE 8192
+#define WUZ_MOST_WORK 4210688
 #define WUZ_MOST_TEXT 328985
 
 /* Reads a rule text. answer (6): number, place, 0, 0, m, k: the rule has m nodes, k of them & or !.
  * nodes (128 at least): on acceptance the first 2 * m are written, for each node its byte offset and its kind, left side, right side, then
- * the node itself. Kinds: a letter's byte, or 0 empty, 1 epsilon, 2 union, 3 intersection, 4 concatenation, 5 complement, 6 star.
+ * the node itself; what follows is not touched. "Side by side" has the offset at which its right side begins. Kinds: a letter's byte, or
+ * 0 empty, 1 epsilon, 2 union, 3 intersection, 4 concatenation, 5 complement, 6 star.
  * Numbers: 0 to 6. */
 void wuz_read_rule(const uint8_t *text, size_t text_len, uint64_t *answer, size_t answer_len, uint64_t *nodes, size_t nodes_len);
 
 /* Reads a day file. answer (5): number, place, 0, 0, n: the day has n events.
- * letters, seconds: on acceptance the first n are written, in line order; 15 where one of them is shorter than n.
+ * letters, seconds: on acceptance the first n are written, in line order; what follows is not touched.
  * Numbers: 0, 11 to 15. */
 void wuz_read_day(const uint8_t *file, size_t file_len, uint8_t *letters, size_t letters_len, uint32_t *seconds, size_t seconds_len,
                   uint64_t *answer, size_t answer_len);
 
-/* Judges every span of a word by a rule, doing at most `limit` of work. answer (4): number, place, found, count: found spans obey the
- * rule, and the work count is count. table: on acceptance its first (k + 1) * (n + 1) * 4 numbers are written, a block of n + 1 rows of
- * four numbers for the whole rule and for each part that a & or ! heads, in rising byte offset. In row i of a block, span (i, j) is bit
- * j % 64 of number j / 64: 1 if the span obeys.
+/* Judges every span of a word of n events by a rule. answer (4): number, place, found, count: found spans obey the rule, and the work
+ * count is count, at most m * (n + 1) * (n + 2); 10 exactly where it is above `limit`.
+ * table: (k + 1) * (n + 1) * 4 numbers are needed; what follows them is not touched. On acceptance they are written: a block of n + 1 rows
+ * of four numbers for the whole rule, and then one for the part that each & or ! heads, in rising byte offset. In row i of a block, span
+ * (i, j) is bit j % 64 (the lowest is bit 0) of number j / 64: 1 exactly if the span obeys. All other bits are 0.
  * Numbers: 0 to 10. */
 void wuz_judge(const uint8_t *rule, size_t rule_len, const uint8_t *word, size_t word_len, uint64_t limit, uint64_t *table,
                size_t table_len, uint64_t *answer, size_t answer_len);
 
-/* Runs a job: a line R, tab, rule, and a day file. answer (5): number, place, found, count, n: the text has n bytes.
- * out: on acceptance the first n bytes are written, an H line and an S line for each span that obeys; 15 where `out` is shorter than n.
+/* Runs a job. answer (5): number, place, found, count, n: the text has n bytes.
+ * out: on acceptance the first n bytes are written: a line H, n, m, k, found, count (here n is the number of events), and for each span
+ * that obeys a line S, i, j, by rising i and then rising j; fields are decimal, with a tab before each and a newline after the line.
+ * What follows is not touched.
  * Numbers: 0 to 6, 11 to 16. */
 void wuz_run_job(const uint8_t *job, size_t job_len, uint8_t *out, size_t out_len, uint64_t *answer, size_t answer_len);
 
