@@ -14,7 +14,8 @@ use Rattle.work.specs.Count.{fullCount}
 use Rattle.work.specs.Table.{found}
 use Rattle.job.specs.JobAnswer.{refused, JobAnswer, refusal, acceptance, jobResult, jobAnswer}
 use Rattle.job.specs.JobMeaning.{Judged, JobMeaning, no-rule-line, rule-refused, day-refused, short-buffer, accepted}
-use Rattle.job.proofs.Listed.{text, lists-text}
+use Rattle.job.specs.FirstBlock.{text}
+use Rattle.job.proofs.Listed.{lists-text}
 use Rattle.job.proofs.Rows.{result-none, result-rule, result-day, result-judged, refusal-number}
 use Rattle.job.proofs.Rows.{Comes, no-line, at-rule, at-day, at-judge, comes}
 use Rattle.job.proofs.Steps.{refused-written}

@@ -7,7 +7,8 @@ use lib.ListN.{length}
 use Rattle.job.specs.JobAnswer.{JobAnswer, acceptance, jobAnswer}
 use Rattle.job.specs.JobMeaning.{JobMeaning, no-rule-line, rule-refused, day-refused, short-buffer, accepted}
 use Rattle.job.proofs.Answered.{judged-short, at-refusal, at-short, at-text}
-use Rattle.job.proofs.Listed.{text, one-found, one-count, one-text}
+use Rattle.job.specs.FirstBlock.{text}
+use Rattle.job.proofs.Listed.{one-found, one-count, one-text}
 use Rattle.job.proofs.Rows.{result-none, result-rule, result-day, refusal-number}
 
 pub answer-is : {s old : List ℕ} {a : JobAnswer} → JobMeaning s old a → a ≡ jobAnswer s old

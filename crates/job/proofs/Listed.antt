@@ -19,10 +19,10 @@ use Rattle.work.proofs.Listed.{listed, listed-order}
 use Rattle.work.proofs.Sizes.{size-unique}
 use Rattle.work.proofs.TableLaws.{obeys-eq, block-length, block-bit}
 use Rattle.work.proofs.WorkSize.{collection-size}
-use Rattle.listing.specs.declared.Heading.{Heading}
 use Rattle.listing.specs.Lines.{headLine, spanLines}
 use Rattle.listing.specs.Marked.{marked, listing}
 use Rattle.listing.proofs.ListingLaws.{marked-has, marked-order, order-one}
+use Rattle.job.specs.FirstBlock.{heading, text}
 use Rattle.job.specs.JobMeaning.{Lists}
 
 -- the first block of a table
@@ -31,13 +31,6 @@ unfolding table
 first-block w t rest =
     ap (take (blockLength (length w))) (append-assoc (block w t) (blocks w (specialParts t)) rest)
     ∙ take-at (block w t) (blocks w (specialParts t) ++ rest) (blockLength (length w)) (block-length w t)
-
--- the fields of the `H` line, and the text that the first block gives
-abbrev pub heading : Word → Tree → Heading
-heading w t = record { n = length w; m = size t; k = specials t; found = found w t; count = fullCount w t }
-
-abbrev pub text : Word → Tree → List ℕ
-text w t = listing (heading w t) (block w t)
 
 module _ (w : Word) (t : Tree) (short : length w ≤ 255) where
   -- the bit of a span that the block has

@@ -31,7 +31,8 @@ use Rattle.job.specs.JobAnswer.{refused, limitOf, JobAnswer, jobAnswer, 
 use Rattle.judge.specs.JudgeMeaning.{Passed}
 use Rattle.job.specs.JobMeaning.{Judged, JobMeaning, no-rule-line, rule-refused, day-refused, short-buffer, accepted}
 use Rattle.job.proofs.Answered.{answer-means, judged-short, at-refusal, at-text}
-use Rattle.job.proofs.Listed.{heading, text, text-obeying}
+use Rattle.job.specs.FirstBlock.{heading, text}
+use Rattle.job.proofs.Listed.{text-obeying}
 use Rattle.job.proofs.Rows.{limit-enough, result-none, result-rule, result-day, result-judged, refusal-number}
 use Rattle.job.proofs.Rows.{Comes, no-line, at-rule, at-day, at-judge, comes}
 

@@ -33,7 +33,8 @@ use Rattle.judge.proofs.Tested.{need-most, at-acceptance}
 use Rattle.job.specs.JobAnswer.{refused, listed, limitOf, afterJudge, afterDay, afterRule, isJob, ruleOf, dayOf, jobResult}
 use Rattle.job.specs.JobMeaning.{Parted, DayRefused, Judged}
 use Rattle.job.proofs.Days.{day-accepting, rebuffered, legal-word}
-use Rattle.job.proofs.Listed.{first-block, heading}
+use Rattle.job.specs.FirstBlock.{heading}
+use Rattle.job.proofs.Listed.{first-block}
 use Rattle.job.proofs.Parting.{parted-job, parted-is-job, parted-rule, parted-day}
 
 -- ---- what the rows come to

@@ -26,6 +26,7 @@ use Rattle.work.proofs.TableLaws.{table-length}
 use Rattle.work.proofs.WorkBound.{full-bound}
 use Rattle.work.proofs.WorkSize.{collection-size}
 use Rattle.judge.specs.JudgeAnswer.{JudgeAnswer, values, refusal, spent, acceptance, foreignAt, limited, judged, judgeAnswer}
+use Rattle.judge.specs.Agree.{Agree}
 use Rattle.judge.specs.JudgeMeaning.{Passed, LegalWord, JudgeMeaning}
 use Rattle.judge.specs.JudgeMeaning.{rule-refused, long-word, foreign-event, short-table, limit-spent, accepted}
 use Rattle.judge.proofs.Answered.{answer-means}
@@ -61,14 +62,6 @@ unfolding bound
 count-bound s w limit old = meant-within (answer-means s w limit old)
 
 -- ---- what the table held
--- two answers that agree but for what lies beyond the first `need` numbers, and for tables that nothing was written into
-pub record Agree (need : ℕ) (a b : JudgeAnswer) : Type 0 where
-  pub number : a .number ≡ b .number
-  pub place : a .place ≡ b .place
-  pub found : a .found ≡ b .found
-  pub count : a .count ≡ b .count
-  pub written : (a .number ≡ 0) ⊎ (a .number ≡ 10) → take need (a .table) ≡ take need (b .table)
-
 both : {A : Type 0} (P : A → A → Type 0) (t : Bool) {a b c d : A} → P a b → (t ≡ false → P c d) → P (cond t a c) (cond t b d)
 both P true x y = x
 both P false x y = y refl

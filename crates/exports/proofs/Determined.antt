@@ -1,0 +1,45 @@
+-- No buffers but the computed ones are what `RuleExport` and the others ask. Assumes nothing.
+use Prim.Native.Nat.{ℕ}
+use mathlib.Core.Path.{_≡_, ap, _∙_}
+use mathlib.Core.Bool.{or-true}
+use mathlib.Core.Logic.{inl, inr}
+use mathlib.Core.List.{List}
+use lib.ListN.{length}
+use borrow.Author.Tests.{lt-ltb, le-ltb}
+use Rattle.rule.proofs.Answered as rule
+use Rattle.rule.specs.RuleAnswer.{RuleAnswer}
+use Rattle.day.proofs.Answered as day
+use Rattle.day.specs.DayAnswer.{DayAnswer}
+use Rattle.judge.proofs.Determined as judge
+use Rattle.judge.specs.JudgeAnswer.{JudgeAnswer}
+use Rattle.job.proofs.Determined as job
+use Rattle.job.specs.JobAnswer.{JobAnswer}
+use Rattle.exports.specs.Exported.{RuleBuffers, ruleTold, readRule, RuleExport, rule-short, rule-told}
+use Rattle.exports.specs.Exported.{DayBuffers, dayTold, readDay, DayExport, day-short, day-told}
+use Rattle.exports.specs.Exported.{JudgeBuffers, judgeTold, judgeSpans, JudgeExport, judge-short, judge-told}
+use Rattle.exports.specs.Exported.{JobBuffers, jobTold, runJob, JobExport, job-short, job-told}
+
+pub rule-is : {text answer nodes : List ℕ} {b : RuleBuffers} → RuleExport text answer nodes b → b ≡ readRule text answer nodes
+unfolding readRule
+rule-is {answer = answer} (rule-short (inl h)) = simp (lt-ltb (length answer) 6 h)
+rule-is {nodes = nodes} (rule-short (inr h)) = simp (lt-ltb (length nodes) 128 h, or-true)
+rule-is {answer = answer} {nodes = nodes} (rule-told a n m) =
+    ap (λ (x : RuleAnswer). ruleTold x answer nodes) (rule.answer-is m) ∙ simp (le-ltb (length answer) 6 a, le-ltb (length nodes) 128 n)
+
+pub day-is : {file letters seconds answer : List ℕ} {b : DayBuffers} → DayExport file letters seconds answer b
+    → b ≡ readDay file letters seconds answer
+unfolding readDay
+day-is {answer = answer} (day-short h) = simp (lt-ltb (length answer) 5 h)
+day-is {answer = answer} (day-told h m) = ap (λ (x : DayAnswer). dayTold x answer) (day.answer-is m) ∙ simp (le-ltb (length answer) 5 h)
+
+pub judge-is : {rule word : List ℕ} {limit : ℕ} {table answer : List ℕ} {b : JudgeBuffers} → JudgeExport rule word limit table answer b
+    → b ≡ judgeSpans rule word limit table answer
+unfolding judgeSpans
+judge-is {answer = answer} (judge-short h) = simp (lt-ltb (length answer) 4 h)
+judge-is {answer = answer} (judge-told h m) =
+    ap (λ (x : JudgeAnswer). judgeTold x answer) (judge.answer-is m) ∙ simp (le-ltb (length answer) 4 h)
+
+pub job-is : {job out answer : List ℕ} {b : JobBuffers} → JobExport job out answer b → b ≡ runJob job out answer
+unfolding runJob
+job-is {answer = answer} (job-short h) = simp (lt-ltb (length answer) 5 h)
+job-is {answer = answer} (job-told h m) = ap (λ (x : JobAnswer). jobTold x answer) (job.answer-is m) ∙ simp (le-ltb (length answer) 5 h)
