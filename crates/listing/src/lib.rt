@@ -49,12 +49,12 @@ pub fn length(heading: Heading, block: &[u64]) -> usize
     requires { ⌜ length (now block) ≤ 1024 ⌝ }
     ensures { λ r. ⌜ r ≡ length (listing heading (now (block .entry))) ⌝ }
 {
-    let n = field_length(heading.n);
-    let m = field_length(heading.m);
-    let k = field_length(heading.k);
-    let found = field_length(heading.found);
-    let count = field_length(heading.count);
-    2 + n + m + k + found + count + spans_length(block)
+    let n_length = field_length(heading.n);
+    let m_length = field_length(heading.m);
+    let k_length = field_length(heading.k);
+    let found_length = field_length(heading.found);
+    let count_length = field_length(heading.count);
+    2 + n_length + m_length + k_length + found_length + count_length + spans_length(block)
 }
 
 // Writes the `H` line to the front of a buffer; the answer is the offset behind it.
@@ -62,13 +62,13 @@ fn put_heading(out: &mut [u8], heading: Heading) -> usize
     requires { ⌜ length (headLine heading) ≤ length (now out) ⌝ }
     ensures { λ r. ⌜ Written (now (out .entry)) 0 (headLine heading) (now (out .exit)) r ⌝ }
 {
-    let letter = put_byte(out, 0, b'H');
-    let n = put_field(out, letter, heading.n);
-    let m = put_field(out, n, heading.m);
-    let k = put_field(out, m, heading.k);
-    let found = put_field(out, k, heading.found);
-    let count = put_field(out, found, heading.count);
-    put_byte(out, count, b'\n')
+    let behind_letter = put_byte(out, 0, b'H');
+    let behind_n = put_field(out, behind_letter, heading.n);
+    let behind_m = put_field(out, behind_n, heading.m);
+    let behind_k = put_field(out, behind_m, heading.k);
+    let behind_found = put_field(out, behind_k, heading.found);
+    let behind_count = put_field(out, behind_found, heading.count);
+    put_byte(out, behind_count, b'\n')
 }
 
 // Writes a listing to the front of a buffer, and leaves the rest.
