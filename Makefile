@@ -13,8 +13,8 @@ help:
 
 EXAMPLE ?= examples/held_open.job
 run:
-	@echo "proving what is not proved yet: up to 5 minutes the first time, a crate a line"
-	@rt check checker | grep -E '^rt:|error'
+	@echo "proving what is not proved yet: about 5 minutes the first time, a line for each of 16 crates"
+	@rt check checker | grep --line-buffered -E '^rt:|error'
 	@echo "the job, $(EXAMPLE):"
 	@cat $(EXAMPLE)
 	@echo "the list:"

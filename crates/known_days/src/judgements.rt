@@ -1,23 +1,9 @@
 // Calls the judge and prints what it answers.
 use crate::show::print;
 use crate::show::print_number;
-use judge::Outcome;
+use crate::show::print_verdict;
 ghost use Prim.Native.Nat.{_+_, _≤_, _<_};
 ghost use lib.ListN.{length};
-
-// A sign and a 64-bit number behind it.
-fn print_wide(sign: u8, n: u64) {
-    print(&[sign]);
-    io::print_decimal(1, n);
-}
-
-fn print_verdict(number: usize, place: usize, found: u64, count: u64) {
-    print(b"judge");
-    print_number(b'\t', number);
-    print_number(b'\t', place);
-    print_wide(b'\t', found);
-    print_wide(b'\t', count);
-}
 
 // How many equal numbers stand side by side from an index on.
 fn run_length(table: &[u64], from: usize) -> usize
@@ -55,19 +41,8 @@ fn print_table(table: &[u64]) {
 
 // Judges with a table and prints the answer, and the table whole.
 fn answer_in(rule: &[u8], word: &[u8], limit: u64, table: &mut [u64]) {
-    match judge::judge(rule, word, limit, table) {
-        Outcome::Accepted(found, count) => print_verdict(0, 0, found, count),
-        Outcome::EmptyText => print_verdict(1, 0, 0, 0),
-        Outcome::LongText => print_verdict(2, 0, 0, 0),
-        Outcome::ForeignByte(place) => print_verdict(3, place, 0, 0),
-        Outcome::NoSentence(place) => print_verdict(4, place, 0, 0),
-        Outcome::ManyNodes => print_verdict(5, 0, 0, 0),
-        Outcome::ManySpecials => print_verdict(6, 0, 0, 0),
-        Outcome::LongWord => print_verdict(7, 0, 0, 0),
-        Outcome::ForeignEvent(place) => print_verdict(8, place, 0, 0),
-        Outcome::ShortTable => print_verdict(9, 0, 0, 0),
-        Outcome::Spent(count) => print_verdict(10, 0, 0, count),
-    }
+    print(b"judge");
+    print_verdict(verdict::of_judge(judge::judge(rule, word, limit, table)));
     print_table(table);
     print(b"\n");
 }

@@ -3,6 +3,7 @@ use day::Outcome as DayOutcome;
 use regex::Kind;
 use regex::Node;
 use rule::Outcome as RuleOutcome;
+use verdict::Verdict;
 ghost use mathlib.Core.Path.{_≡_};
 ghost use lib.ListN.{length};
 
@@ -36,12 +37,18 @@ fn print_node(node: Node) {
     print(&[b':', sign_of(kind)]);
 }
 
-// Number, place, found and count; found and count of a reader are 0.
-fn print_verdict(number: usize, place: usize) {
-    print_number(b'\t', number);
-    print_number(b'\t', place);
-    print_number(b'\t', 0);
-    print_number(b'\t', 0);
+// A 64-bit number behind a tab.
+fn print_field(n: u64) {
+    print(b"\t");
+    io::print_decimal(1, n);
+}
+
+// Number, place, found and count.
+pub fn print_verdict(verdict: Verdict) {
+    print_field(verdict.number);
+    print_field(verdict.place);
+    print_field(verdict.found);
+    print_field(verdict.count);
 }
 
 // The first m records, or a dash.
@@ -59,9 +66,9 @@ fn print_records(nodes: [Node; 64], m: usize) {
     }
 }
 
-fn print_rule(number: usize, place: usize, m: usize, k: usize, nodes: [Node; 64]) {
+fn print_rule(verdict: Verdict, m: usize, k: usize, nodes: [Node; 64]) {
     print(b"rule");
-    print_verdict(number, place);
+    print_verdict(verdict);
     print_number(b'\t', m);
     print_number(b'\t', k);
     print(b"\t");
@@ -74,15 +81,12 @@ pub fn answer_rule(text: &[u8]) {
     let rule = rule::read(text);
     let outcome = rule.outcome;
     let nodes = rule.nodes;
-    match outcome {
-        RuleOutcome::Accepted(m, k) => print_rule(0, 0, m, k, nodes),
-        RuleOutcome::EmptyText => print_rule(1, 0, 0, 0, nodes),
-        RuleOutcome::LongText => print_rule(2, 0, 0, 0, nodes),
-        RuleOutcome::ForeignByte(place) => print_rule(3, place, 0, 0, nodes),
-        RuleOutcome::NoSentence(place) => print_rule(4, place, 0, 0, nodes),
-        RuleOutcome::ManyNodes => print_rule(5, 0, 0, 0, nodes),
-        RuleOutcome::ManySpecials => print_rule(6, 0, 0, 0, nodes),
-    }
+    let verdict = verdict::of_rule(outcome);
+    let RuleOutcome::Accepted(m, k) = outcome else {
+        print_rule(verdict, 0, 0, nodes);
+        return;
+    };
+    print_rule(verdict, m, k, nodes);
 }
 
 // A buffer's element, with a comma in front unless it is the first.
@@ -117,22 +121,24 @@ fn print_seconds(seconds: &[u32]) {
     }
 }
 
-fn print_day(number: usize, place: usize, n: usize) {
+fn print_day(verdict: Verdict, n: usize) {
     print(b"day");
-    print_verdict(number, place);
+    print_verdict(verdict);
     print_number(b'\t', n);
+}
+
+fn print_outcome(outcome: DayOutcome) {
+    let verdict = verdict::of_day(outcome);
+    let DayOutcome::Accepted(n) = outcome else {
+        print_day(verdict, 0);
+        return;
+    };
+    print_day(verdict, n);
 }
 
 // Reads a day file into the two buffers and prints the answer, and the buffers whole.
 fn answer_in(file: &[u8], letters: &mut [u8], seconds: &mut [u32]) {
-    match day::read(file, letters, seconds) {
-        DayOutcome::Accepted(n) => print_day(0, 0, n),
-        DayOutcome::LongFile => print_day(11, 0, 0),
-        DayOutcome::Malformed(line) => print_day(12, line, 0),
-        DayOutcome::WrongSecond(line) => print_day(13, line, 0),
-        DayOutcome::ManyLines => print_day(14, 256, 0),
-        DayOutcome::ShortBuffer => print_day(15, 0, 0),
-    }
+    print_outcome(day::read(file, letters, seconds));
     print_letters(letters);
     print_seconds(seconds);
     print(b"\n");
