@@ -28,13 +28,25 @@ pub fn refusal(number: u64, place: u64) -> Verdict
     }
 }
 
+// An acceptance.
+fn acceptance(found: u64, count: u64) -> Verdict
+    ensures { λ r. ⌜ Says r 0 0 found count ⌝ }
+{
+    Verdict {
+        number: 0,
+        place: 0,
+        found: found,
+        count: count,
+    }
+}
+
 // The verdict of the rule reader; the records are no part of it.
 pub fn of_rule(outcome: RuleOutcome) -> Verdict
     ensures { λ r. ⌜ Says r (ruleValues outcome [] .number) (ruleValues outcome [] .place) (ruleValues outcome [] .found)
         (ruleValues outcome [] .count) ⌝ }
 {
     match outcome {
-        RuleOutcome::Accepted(m, k) => refusal(0, 0),
+        RuleOutcome::Accepted(m, k) => acceptance(0, 0),
         RuleOutcome::EmptyText => refusal(1, 0),
         RuleOutcome::LongText => refusal(2, 0),
         RuleOutcome::ForeignByte(place) => refusal(3, place as u64),
@@ -50,7 +62,7 @@ pub fn of_day(outcome: DayOutcome) -> Verdict
         (dayValues outcome [] [] .count) ⌝ }
 {
     match outcome {
-        DayOutcome::Accepted(n) => refusal(0, 0),
+        DayOutcome::Accepted(n) => acceptance(0, 0),
         DayOutcome::LongFile => refusal(11, 0),
         DayOutcome::Malformed(line) => refusal(12, line as u64),
         DayOutcome::WrongSecond(line) => refusal(13, line as u64),
@@ -65,12 +77,7 @@ pub fn of_judge(outcome: JudgeOutcome) -> Verdict
         (judgeValues outcome [] .count) ⌝ }
 {
     match outcome {
-        JudgeOutcome::Accepted(found, count) => Verdict {
-            number: 0,
-            place: 0,
-            found: found,
-            count: count,
-        },
+        JudgeOutcome::Accepted(found, count) => acceptance(found, count),
         JudgeOutcome::EmptyText => refusal(1, 0),
         JudgeOutcome::LongText => refusal(2, 0),
         JudgeOutcome::ForeignByte(place) => refusal(3, place as u64),
