@@ -1,5 +1,5 @@
 # The project's commands. `make` alone lists them.
-.PHONY: help run test prove library second compare
+.PHONY: help run test prove library second compare bench
 SHELL := /bin/bash
 .SHELLFLAGS := -o pipefail -c
 
@@ -10,6 +10,7 @@ help:
 	@echo "make library   the static library for C: target/staticlib/libexports.a, with include/wuzlevor.h"
 	@echo "make second    builds the second program: second/target/release/second"
 	@echo "make compare   more random cases against the second program: N=n library calls and n/10 jobs, SEED=n for others"
+	@echo "make bench     measures speed: the judge and the program beside two unproved ones and foma, and the judge's stack"
 
 EXAMPLE ?= examples/held_open.job
 run:
@@ -40,3 +41,6 @@ compare:
 	scripts/compare_answers $(SEED) 100
 	rt staticlib exports
 	scripts/compare_proved $(SEED) $(N) $$(($(N) / 10))
+
+bench:
+	@scripts/bench

@@ -1,17 +1,17 @@
 -- The binary digits of a number: of joined, met and differing numbers, of powers of two, and the lowest one that is set. Assumes nothing.
 use mathlib.Core.Path.{_≡_, refl, sym, ap, _∙_}
-use mathlib.Core.Bool.{Bool, true, false, _||_}
+use mathlib.Core.Bool.{Bool, true, false, _&&_, _||_, xor, false≢true}
 use mathlib.Core.Logic.{_⊎_, inl, inr, ⊎-elim}
-use Prim.Native.Nat.{ℕ, zero, suc, _+_, _-_, _/_, _%_, _^_, min, max, _≤_, _<_}
-use native.Mathlib.Nat.{zero-max, div-self, div-eq-of-lt, mul-mod-left, pow-suc, zero-div, zero-mod, eq-zero-or-pos}
+use Prim.Native.Nat.{ℕ, zero, suc, _+_, _-_, _*_, _/_, _%_, _^_, min, max, _≤_, _<_}
+use native.Mathlib.Nat.{zero-max, zero-min, div-self, div-eq-of-lt, mul-mod-left, pow-suc, zero-div, zero-mod, eq-zero-or-pos}
 use native.Mathlib.Omega.{arith}
 use native.Mathlib.Numerals.{add-one, one-add}
 use lib.Arith.{digits-mod}
 use lib.Bits.{bitOr, or-shr, or-step, bitAnd, and-shr, and-step, and-lt, bitXor, xor-shr, xor-step, xor-lt, differ}
 use lib.Count.{trailingZeros, trailing-of-zero, under}
 use lib.Dec.{eqb, ltb, lit≤}
-use lib.Pow.{pow-pos, pow-lt, pow-add, shl-shr, shr-shr, shr-lt}
-use borrow.Author.Tests.{eq-eqb, ne-eqb, ltb-true, ltb-false, eqb-true, eqb-false}
+use lib.Pow.{pow-pos, pow-lt, pow-add, shl-shr, shr-shr, shr-lt, high, ones-lt, ones-split}
+use borrow.Author.Tests.{eq-eqb, ne-eqb, ltb-true, ltb-false, lt-ltb, le-ltb, eqb-true, eqb-false}
 use Rattle.bits.specs.Bit.{hasBit, First}
 
 -- ---- two numbers: which is below, or whether they are the same
@@ -90,6 +90,35 @@ pub digit-and : (b x y : ℕ) → digit b (bitAnd x y) ≡ min (digit b x) (digi
 unfolding digit
 digit-and b x y = ap (λ (n : ℕ). n % 2) (and-shr x y b) ∙ and-low (x / 2 ^ b) (y / 2 ^ b)
 
+min-test : (x y : ℕ) → x < 2 → y < 2 → eqb (min x y) 1 ≡ (eqb x 1 && eqb y 1)
+min-test zero y h k = ap (λ (n : ℕ). eqb n 1) (zero-min y)
+min-test (suc zero) zero h k = refl
+min-test (suc zero) (suc zero) h k = refl
+min-test (suc zero) (suc (suc y)) h k = absurd (omega arith)
+min-test (suc (suc x)) y h k = absurd (omega arith)
+
+pub has-and : (b x y : ℕ) → hasBit b (bitAnd x y) ≡ (hasBit b x && hasBit b y)
+has-and b x y =
+    rw (has-digit, has-digit, has-digit)
+    (ap (λ (n : ℕ). eqb n 1) (digit-and b x y) ∙ min-test (digit b x) (digit b y) (digit-lt b x) (digit-lt b y))
+
+pub and-both : (b x y : ℕ) → hasBit b x ≡ true → hasBit b y ≡ true → hasBit b (bitAnd x y) ≡ true
+and-both b x y e f = has-and b x y ∙ ap (_&& hasBit b y) e ∙ f
+
+first-true : (x y : Bool) → (x && y) ≡ true → x ≡ true
+first-true true y e = refl
+first-true false y e = e
+
+second-true : (x y : Bool) → (x && y) ≡ true → y ≡ true
+second-true true y e = e
+second-true false y e = absurd (false≢true e)
+
+pub and-left : (b x y : ℕ) → hasBit b (bitAnd x y) ≡ true → hasBit b x ≡ true
+and-left b x y e = first-true (hasBit b x) (hasBit b y) (sym (has-and b x y) ∙ e)
+
+pub and-right : (b x y : ℕ) → hasBit b (bitAnd x y) ≡ true → hasBit b y ≡ true
+and-right b x y e = second-true (hasBit b x) (hasBit b y) (sym (has-and b x y) ∙ e)
+
 differ-lt : (x y : ℕ) → x < 2 → y < 2 → differ x y < 2
 differ-lt zero y h k = k
 differ-lt (suc x) zero h k = h
@@ -103,6 +132,21 @@ xor-low x y =
 digit-xor : (b x y : ℕ) → digit b (bitXor x y) ≡ differ (digit b x) (digit b y)
 unfolding digit
 digit-xor b x y = ap (λ (n : ℕ). n % 2) (xor-shr x y b) ∙ xor-low (x / 2 ^ b) (y / 2 ^ b)
+
+differ-test : (x y : ℕ) → x < 2 → y < 2 → eqb (differ x y) 1 ≡ xor (eqb x 1) (eqb y 1)
+unfolding xor
+differ-test zero zero h k = refl
+differ-test zero (suc zero) h k = refl
+differ-test (suc zero) zero h k = refl
+differ-test (suc zero) (suc zero) h k = refl
+differ-test (suc (suc x)) y h k = absurd (omega arith)
+differ-test zero (suc (suc y)) h k = absurd (omega arith)
+differ-test (suc zero) (suc (suc y)) h k = absurd (omega arith)
+
+pub has-xor : (b x y : ℕ) → hasBit b (bitXor x y) ≡ xor (hasBit b x) (hasBit b y)
+has-xor b x y =
+    rw (has-digit, has-digit, has-digit)
+    (ap (λ (n : ℕ). eqb n 1) (digit-xor b x y) ∙ differ-test (digit b x) (digit b y) (digit-lt b x) (digit-lt b y))
 
 -- ---- powers of two
 
@@ -137,6 +181,36 @@ power-has b = has-digit b (2 ^ b) ∙ eq-eqb (digit b (2 ^ b)) 1 (digit-power b)
 
 pub power-lacks : (b c : ℕ) → (c ≡ b → ⊥) → hasBit c (2 ^ b) ≡ false
 power-lacks b c ne = has-digit c (2 ^ b) ∙ ap (λ (n : ℕ). eqb n 1) (digit-power-other b c ne)
+
+-- ---- a power of two less one, which has the digits below its own
+
+mask-below : (b j : ℕ) → digit b (2 ^ (suc j + b) - 1) ≡ 1
+unfolding digit
+mask-below b j =
+    ap (λ (n : ℕ). n / 2 ^ b % 2) (ones-split (suc j) b)
+    ∙ ap (λ (n : ℕ). n % 2) (high (2 ^ suc j - 1) b (ones-lt b))
+    ∙ odd (2 ^ suc j) (2 ^ j) (pow-suc 2 j) (pow-pos j)
+  where
+    odd : (x y : ℕ) → x ≡ y * 2 → 0 < y → (x - 1) % 2 ≡ 1
+    odd x y e p = omega arith
+
+mask-above : (b c : ℕ) → c ≤ b → digit b (2 ^ c - 1) ≡ 0
+unfolding digit
+mask-above b c h = ap (λ (n : ℕ). n % 2) (div-eq-of-lt (small (same-or-not c b)))
+  where
+    small : (c ≡ b) ⊎ (c ≡ b → ⊥) → 2 ^ c - 1 < 2 ^ b
+    small (inl e) = rw e (ones-lt b)
+    small (inr n) = omega (arith, ones-lt c, pow-lt {i = c} {j = b} (omega arith))
+
+pub mask-has : (b c : ℕ) → hasBit b (2 ^ c - 1) ≡ ltb b c
+mask-has b c =
+    has-digit b (2 ^ c - 1)
+    ∙ ⊎-elim
+    (λ (h : b < c).
+    let e : c ≡ suc (c - suc b) + b = omega arith in
+    eq-eqb (digit b (2 ^ c - 1)) 1 (ap (λ (n : ℕ). digit b (2 ^ n - 1)) e ∙ mask-below b (c - suc b)) ∙ sym (lt-ltb b c h))
+    (λ (h : c ≤ b). ap (λ (n : ℕ). eqb n 1) (mask-above b c h) ∙ sym (le-ltb b c h))
+    (below-or-not b c)
 
 -- ---- the lowest digit that is set
 

@@ -76,15 +76,15 @@ adds-as {a} {b} {P} {Q} to from f = record {
   long = f .long;
 }
 
-or-left : (x y : Bool) → x ≡ true → (x || y) ≡ true
+pub or-left : (x y : Bool) → x ≡ true → (x || y) ≡ true
 or-left true y e = refl
 or-left false y e = absurd (false≢true e)
 
-or-right : (x y : Bool) → y ≡ true → (x || y) ≡ true
+pub or-right : (x y : Bool) → y ≡ true → (x || y) ≡ true
 or-right true y e = refl
 or-right false y e = e
 
-or-cases : (x y : Bool) → (x || y) ≡ true → (x ≡ true) ⊎ (y ≡ true)
+pub or-cases : (x y : Bool) → (x || y) ≡ true → (x ≡ true) ⊎ (y ≡ true)
 or-cases true y e = inl refl
 or-cases false y e = inr e
 

@@ -11,7 +11,7 @@ use lib.ListN.{length, getD, List·getD-append}
 use lib.Seq.{getD-append-add}
 use borrow.Author.Tests.{eqb-true, eqb-false}
 use Rattle.bits.specs.Bit.{hasBit, bitAt, onesOf, indicator, tallyBelow, packed, packedRun}
-use Rattle.bits.proofs.Tally.{tally-none, tally-add}
+use Rattle.bits.proofs.Tally.{tally-same, tally-none, tally-add}
 
 indicator-lt : (b : Bool) → indicator b < 2
 indicator-lt true = omega arith
@@ -132,3 +132,26 @@ pub append-small : (a b : List ℕ) → Small a → Small b → Small (a ++ b)
 append-small [] b h k i = k i
 append-small (x ∷ a) b h k zero = h 0
 append-small (x ∷ a) b h k (suc i) = append-small a b (λ n. h (suc n)) k i
+
+-- the ones of a number are as many as its bits
+pub number-ones : (x : ℕ) → x < 2 ^ 64 → ones x ≡ tallyBelow 64 (λ (b : ℕ). hasBit b x)
+number-ones x h = ap ones (packed-is 64 x (λ (b : ℕ). hasBit b x) h (λ r _. refl)) ∙ packed-ones 64 (λ (b : ℕ). hasBit b x)
+
+-- the ones of a run are as many as its bits
+pub bits-ones : (a : List ℕ) → Small a → onesOf a ≡ tallyBelow (64 * length a) (bitAt a)
+unfolding onesOf bitAt
+bits-ones [] s = sym (tally-none (64 * 0) (bitAt []) (λ r l. absurd (omega arith)))
+bits-ones (x ∷ a) s =
+    let e : 64 * suc (length a) ≡ 64 + 64 * length a = omega arith in
+    let f = tally-same 64 (bitAt (x ∷ a)) (λ (b : ℕ). hasBit b x) (λ r l. front r l) in
+    let g = tally-same (64 * length a) (λ (r : ℕ). bitAt (x ∷ a) (64 + r)) (bitAt a) (λ r l. bit-behind (x ∷ []) a r) in
+    omega (
+      arith,
+      number-ones x (s 0),
+      bits-ones a (λ i. s (suc i)),
+      tally-add 64 (64 * length a) (bitAt (x ∷ a)),
+      ap (λ n. tallyBelow n (bitAt (x ∷ a))) e,
+    )
+  where
+    front : (r : ℕ) → r < 64 → bitAt (x ∷ a) r ≡ hasBit r x
+    front r l = let m : r % 64 ≡ r = omega arith in let d : r / 64 ≡ 0 = omega arith in rw (m, d) refl

@@ -1,7 +1,7 @@
 -- How many numbers below a bound pass a test. Assumes nothing.
-use mathlib.Core.Path.{_≡_, refl, ap, ap₂, _∙_}
-use mathlib.Core.Bool.{Bool, false}
-use Prim.Native.Nat.{ℕ, zero, suc, _+_, _<_}
+use mathlib.Core.Path.{_≡_, refl, sym, ap, ap₂, _∙_}
+use mathlib.Core.Bool.{Bool, true, false, false≢true}
+use Prim.Native.Nat.{ℕ, zero, suc, _+_, _-_, _≤_, _<_}
 use native.Mathlib.Omega.{arith}
 use Rattle.bits.specs.Bit.{indicator, tallyBelow}
 
@@ -32,3 +32,53 @@ tally-more k f =
     let e : k + 0 ≡ k = omega arith in
     let h : indicator (f (k + 0)) ≡ indicator (f k) = ap (λ n. indicator (f n)) e in
     omega (arith, tally-add k 1 f, h)
+
+-- ---- compared
+
+indicator-most : (x : Bool) → indicator x ≤ 1
+indicator-most true = omega arith
+indicator-most false = omega arith
+
+indicator-le : (x y : Bool) → (x ≡ true → y ≡ true) → indicator x ≤ indicator y
+indicator-le true true h = omega arith
+indicator-le true false h = absurd (false≢true (h refl))
+indicator-le false y h = omega arith
+
+tally-most : (k : ℕ) (f : ℕ → Bool) → tallyBelow k f ≤ k
+unfolding tallyBelow
+tally-most zero f = omega arith
+tally-most (suc k) f = omega (arith, indicator-most (f 0), tally-most k (λ (r : ℕ). f (suc r)))
+
+pub tally-le : (k : ℕ) (f g : ℕ → Bool) → ((s : ℕ) → s < k → f s ≡ true → g s ≡ true) → tallyBelow k f ≤ tallyBelow k g
+unfolding tallyBelow
+tally-le zero f g h = omega arith
+tally-le (suc k) f g h =
+    omega (
+      arith,
+      indicator-le (f 0) (g 0) (h 0 (omega arith)),
+      tally-le k (λ (r : ℕ). f (suc r)) (λ (r : ℕ). g (suc r)) (λ s l. h (suc s) (omega arith)),
+    )
+
+-- more pass where s passes anew
+tally-lt : (k : ℕ) (f g : ℕ → Bool) (s : ℕ) → ((r : ℕ) → r < k → f r ≡ true → g r ≡ true) → s < k → f s ≡ false → g s ≡ true
+    → tallyBelow k f < tallyBelow k g
+unfolding tallyBelow
+tally-lt zero f g s h l e d = absurd (omega arith)
+tally-lt (suc k) f g zero h l e d =
+    rw (e, d) (omega (arith, tally-le k (λ (r : ℕ). f (suc r)) (λ (r : ℕ). g (suc r)) (λ t m. h (suc t) (omega arith))))
+tally-lt (suc k) f g (suc s) h l e d =
+    omega (
+      arith,
+      indicator-le (f 0) (g 0) (h 0 (omega arith)),
+      tally-lt k (λ (r : ℕ). f (suc r)) (λ (r : ℕ). g (suc r)) s (λ t m. h (suc t) (omega arith)) (omega arith) e d,
+    )
+
+-- what is left shrinks where s passes anew
+pub left-less : (k : ℕ) (f g : ℕ → Bool) (s : ℕ) → ((r : ℕ) → f r ≡ true → g r ≡ true) → s < k → f s ≡ false → g s ≡ true
+    → k - tallyBelow k g < k - tallyBelow k f
+left-less k f g s h l e d = omega (arith, tally-lt k f g s (λ r _. h r) l e d, tally-most k g)
+
+pub tally-up : (f : ℕ → Bool) (m k : ℕ) → m ≤ k → tallyBelow m f ≤ tallyBelow k f
+tally-up f m k h =
+    let e : m + (k - m) ≡ k = omega arith in
+    omega (arith, sym (ap (λ (n : ℕ). tallyBelow n f) e) ∙ tally-add m (k - m) f)

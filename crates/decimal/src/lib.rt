@@ -16,7 +16,7 @@ pub struct Digits {
 }
 
 // How many digits write x: one, and one more for each division by ten until one digit is left.
-fn width(x: u64) -> usize
+pub fn width(x: u64) -> usize
     ensures { λ r. ⌜ r ≡ length (decimal x) ⌝ }
 {
     let mut front = x;

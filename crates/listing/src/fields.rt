@@ -55,6 +55,5 @@ pub fn put_line(out: &mut [u8], at: usize, letter: u8, x: u64, y: u64) -> usize
 pub fn field_length(x: u64) -> usize
     ensures { λ r. ⌜ (r ≡ length (field x)) × (r ≤ 21) ⌝ }
 {
-    let digits = decimal::digits_of(x);
-    digits.len + 1
+    decimal::width(x) + 1
 }

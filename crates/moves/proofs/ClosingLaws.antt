@@ -1,70 +1,73 @@
--- The closure of the free moves: pairs of states by way of one state after another. Assumes nothing.
+-- The closure of the free moves: each row is completed by following its states. Assumes nothing.
 use mathlib.Core.Path.{_≡_, refl, sym, _∙_}
 use mathlib.Core.Bool.{true, false, false≢true}
 use mathlib.Core.Logic.{_⊎_, inl, inr, ⊎-elim}
 use mathlib.Core.List.{List}
-use Prim.Native.Nat.{ℕ, _+_, _*_, _/_, _%_, _≤_, _<_}
+use Prim.Native.Nat.{ℕ, _+_, _-_, _*_, _/_, _%_, _≤_, _<_}
 use native.Mathlib.Omega.{arith}
-use lib.ListN.{getD}
-use Rattle.bits.specs.Bit.{bitAt, Put, Merged, Adds}
+use lib.ListN.{getD, replicate}
+use Rattle.bits.specs.Bit.{bitAt, tallyBelow, Put, Merged, Adds, First}
 use Rattle.bits.proofs.Digits.{below-or-not}
-use Rattle.bits.proofs.Laws.{put-adds, adds-none, adds-then, adds-as}
+use Rattle.bits.proofs.Laws.{put-adds, adds-none, adds-then, adds-as, zeros-bit}
+use Rattle.bits.proofs.Tally.{left-less}
 use Rattle.moves.specs.Reached.{start, after}
-use Rattle.moves.specs.Moves.{Leads, Closed}
-use Rattle.moves.specs.Closing.{Through, Via, Same, LeaveBelow}
+use Rattle.moves.specs.Moves.{FreeMove, Leads, Closed}
+use Rattle.moves.specs.Closing.{NextState, Through, Settled, Completed, Same, LeaveBelow}
 use Rattle.moves.proofs.Paths.{leads-on, leads-nowhere}
-use Rattle.moves.proofs.RowLaws.{row-merged}
+use Rattle.moves.proofs.RowLaws.{low-bit, high-bit, row-low, row-high, by-half, row-merged}
 
--- ---- one state's pairs by way of k
+-- ---- a state of a row that is not done
 
-pub through-none : (a : List ℕ) (s k : ℕ) → bitAt a (128 * s + k) ≡ false → Adds a (Through a s k) a
-through-none a s k e = adds-none a _ (λ q u. false≢true (sym e ∙ u .first))
-
-pub through-all : {a b c : List ℕ} (s k : ℕ) → bitAt a (128 * s + k) ≡ true
-    → Merged a (2 * s) (getD a (2 * k) 0) b → Merged b (2 * s + 1) (getD a (2 * k + 1) 0) c → Adds a (Through a s k) c
-through-all {a} s k e f g =
-    adds-as (λ q u. record { row = u .0; first = e; second = u .1 }) (λ q u. (u .row, u .second)) (row-merged a s k f g)
-
--- ---- the pairs by way of k, state by state
-
-pub via-none : (a : List ℕ) (k : ℕ) → Adds a (Via a k 0) a
-via-none a k = adds-none a _ (λ q u. let r = u .row in omega arith)
-
-module _ (a : List ℕ) (k : ℕ) (l : k < 128) where
-  pub via-turn : {b c : List ℕ} (s : ℕ) → Adds a (Via a k s) b → Adds b (Through b s k) c → Adds a (Via a k (s + 1)) c
-  via-turn {b} {c} s f g = record {
-    old = λ q e. g .old q (f .old q e);
-    new = λ q v.
-        let r = v .row in
-        ⊎-elim (λ (h : q / 128 < s). g .old q (f .new q record { row = h; first = v .first; second = v .second }))
-        (λ (h : s ≤ q / 128).
-        let e : q / 128 ≡ s = omega arith in
-        g .new q record { row = e; first = f .old (128 * s + k) (rw e at (v .first)); second = f .old (128 * k + q % 128) (v .second) })
-        (below-or-not (q / 128) s);
-    only = λ q e.
-        ⊎-elim
-        (λ (x : bitAt b q ≡ true).
-        ⊎-elim (λ (y : bitAt a q ≡ true). inl y)
-        (λ (y : Via a k s q). let r = y .row in inr record { row = omega arith; first = y .first; second = y .second })
-        (f .only q x))
-        (λ (x : Through b s k q).
-        let r = x .row in
-        inr record { row = omega arith; first = rw r (same-first (x .first)); second = same-second (q % 128) (omega arith) (x .second) })
-        (g .only q e);
-    long = g .long ∙ f .long;
+module _ (c : List ℕ) (s : ℕ) (d : List ℕ) (low : ℕ) (f : First (getD c (2 * s) 0) (getD d 0 0) low) where
+  pub next-low : low < 64 → NextState c s d low
+  next-low l = record {
+    within = omega arith;
+    there = λ _. row-low c s low l ∙ f .there l;
+    fresh = λ _. low-bit d low l ∙ f .fresh l;
+    none = λ e. absurd (omega arith);
   }
-    where
-      same-first : bitAt b (128 * s + k) ≡ true → bitAt a (128 * s + k) ≡ true
-      same-first x =
-          ⊎-elim (λ (y : bitAt a (128 * s + k) ≡ true). y)
-          (λ (y : Via a k s (128 * s + k)). let r = y .row in absurd (omega arith))
-          (f .only (128 * s + k) x)
 
-      same-second : (t : ℕ) → t < 128 → bitAt b (128 * k + t) ≡ true → bitAt a (128 * k + t) ≡ true
-      same-second t m x =
-          ⊎-elim (λ (y : bitAt a (128 * k + t) ≡ true). y)
-          (λ (y : Via a k s (128 * k + t)). let e : (128 * k + t) % 128 ≡ t = omega arith in rw e at (y .second))
-          (f .only (128 * k + t) x)
+  pub next-high : (high : ℕ) → First (getD c (2 * s + 1) 0) (getD d 1 0) high → 64 ≤ low → NextState c s d (64 + high)
+  next-high high g k =
+      let p = f .within in let q = g .within in
+      record {
+        within = omega arith;
+        there = λ v. let l : high < 64 = omega arith in row-high c s high l ∙ g .there l;
+        fresh = λ v. let l : high < 64 = omega arith in high-bit d high l ∙ g .fresh l;
+        none = λ e. by-half (λ (t : ℕ). bitAt c (128 * s + t) ≡ true → bitAt d t ≡ true)
+            (λ t l h. low-bit d t l ∙ f .below t (omega arith) (sym (row-low c s t l) ∙ h))
+            (λ t l h. high-bit d t l ∙ g .below t (omega arith) (sym (row-high c s t l) ∙ h));
+      }
+
+-- what is left of the states shrinks where one is done that was not
+pub next-less : {c d e : List ℕ} {s r : ℕ} {P : ℕ → Type 0} → NextState c s d r → (r ≡ 128 → ⊥) → Adds d P e → P r
+    → 128 - tallyBelow 128 (bitAt e) < 128 - tallyBelow 128 (bitAt d)
+next-less {d = d} {e = e} {r = r} n more f p =
+    let w = n .within in
+    let l : r < 128 = omega arith in
+    left-less 128 (bitAt d) (bitAt e) r (f .old) l (n .fresh l) (f .new r p)
+
+-- ---- rows that are merged
+
+pub through-law : {a b c : List ℕ} (s k : ℕ)
+    → Merged a (2 * s) (getD a (2 * k) 0) b → Merged b (2 * s + 1) (getD a (2 * k + 1) 0) c → Adds a (Through a s k) c
+through-law {a} s k f g = adds-as (λ q u. record { row = u .0; second = u .1 }) (λ q u. (u .row, u .second)) (row-merged a s k f g)
+
+-- ---- states that are done
+
+pub settled-late : {a b c : List ℕ} {s k : ℕ} → s ≤ k → Put a k b → Adds a (Settled c s k) b
+settled-late {k = k} l p =
+    adds-as (λ q (e : q ≡ k). inl e) (λ q. ⊎-elim (λ (e : q ≡ k). e) (λ u. let v = u .0 in absurd (omega arith))) (put-adds p)
+
+pub settled-early : (c : List ℕ) {a b d e : List ℕ} {s k : ℕ} → k < s → Put a k b
+    → Merged b 0 (getD c (2 * k) 0) d → Merged d 1 (getD c (2 * k + 1) 0) e → Adds a (Settled c s k) e
+settled-early c {s = s} {k} l p f g =
+    adds-as
+    (λ q.
+    ⊎-elim (λ (e : q ≡ k). inl e)
+    (λ (u : (q / 128 ≡ 0) × (bitAt c (128 * k + q % 128) ≡ true)). inr (l, record { row = u .0; second = u .1 })))
+    (λ q. ⊎-elim (λ (e : q ≡ k). inl e) (λ (u : (k < s) × Through c 0 k q). inr (u .1 .row, u .1 .second)))
+    (adds-then (put-adds p) (row-merged c 0 k f g))
 
 -- ---- the diagonal
 
@@ -83,94 +86,104 @@ same-turn s l f g =
     ⊎-elim (λ (h : q / 128 < s). inl record { row = h; same = e }) (λ (h : s ≤ q / 128). inr (omega arith)) (below-or-not (q / 128) s))
     (adds-then f (put-adds g))
 
--- ---- the closure
+-- ---- one row
 
--- c holds the moves m and each state's pair with itself, nothing to which moves do not lead, and the pairs by way of states below k
-pub record Growing (m : List ℕ) (k : ℕ) (c : List ℕ) : Type 0 where
-  pub has : (q : ℕ) → bitAt m q ≡ true → bitAt c q ≡ true
-  pub self : (s : ℕ) → s < 128 → bitAt c (128 * s + s) ≡ true
-  pub only : (s t : ℕ) → s < 128 → t < 128 → bitAt c (128 * s + t) ≡ true → Leads m s t
-  pub across : (x s t : ℕ) → x < k → s < 128 → t < 128 → bitAt c (128 * s + x) ≡ true → bitAt c (128 * x + t) ≡ true
-      → bitAt c (128 * s + t) ≡ true
+-- row s is being completed: it has what moves lead to from the states that are done
+pub record Completing (m : List ℕ) (s : ℕ) (c done : List ℕ) : Type 0 where
+  pub rows : Completed m s c
+  pub settled : (k t : ℕ) → bitAt done k ≡ true → FreeMove m k t → bitAt c (128 * s + t) ≡ true
 
-pub growing-start : {m c : List ℕ} → Adds m (Same 128) c → Growing m 0 c
-growing-start {m} {c} f = record {
+pub completing-start : (m : List ℕ) (s : ℕ) (c : List ℕ) → Completed m s c → Completing m s c (replicate 2 0)
+completing-start m s c f = record { rows = f; settled = λ k t e. absurd (false≢true (sym (zeros-bit 2 k) ∙ e)) }
+
+module _ {m : List ℕ} {s k : ℕ} {b c d e : List ℕ} (small : s < 128) (i : Completing m s b d) (n : NextState b s d k) (more : k ≡ 128 → ⊥)
+    (f : Adds b (Through b s k) c) (g : Adds d (Settled c s k) e) where
+  state : k < 128
+  state = let w = n .within in omega arith
+
+  -- a pair is an old one, or, in row s, one of row k
+  parts : (r t : ℕ) → t < 128 → bitAt c (128 * r + t) ≡ true → (bitAt b (128 * r + t) ≡ true) ⊎ ((r ≡ s) × (bitAt b (128 * k + t) ≡ true))
+  parts r t v h =
+      let x : (128 * r + t) / 128 ≡ r = omega arith in
+      let y : (128 * r + t) % 128 ≡ t = omega arith in
+      ⊎-elim (λ (u : bitAt b (128 * r + t) ≡ true). inl u)
+      (λ (u : Through b s k (128 * r + t)). inr (sym x ∙ u .row, rw y at (u .second)))
+      (f .only (128 * r + t) h)
+
+  -- row s has what row k had
+  joined : (t : ℕ) → t < 128 → bitAt b (128 * k + t) ≡ true → bitAt c (128 * s + t) ≡ true
+  joined t v h =
+      let y : (128 * s + t) % 128 ≡ t = omega arith in
+      f .new (128 * s + t) record { row = omega arith; second = rw y h }
+
+  rows-on : Completed m s c
+  rows-on = record {
+    has = λ q h. f .old q (i .rows .has q h);
+    self = λ r v. f .old (128 * r + r) (i .rows .self r v);
+    only = λ r t u v h.
+        ⊎-elim (λ (x : bitAt b (128 * r + t) ≡ true). i .rows .only r t u v x)
+        (λ (x : (r ≡ s) × (bitAt b (128 * k + t) ≡ true)).
+        rw (x .0) (leads-on (i .rows .only s k small state (n .there state)) (i .rows .only k t state v (x .1))))
+        (parts r t v h);
+    complete = λ r u t l h x.
+        ⊎-elim (λ (y : bitAt b (128 * r + u) ≡ true). f .old (128 * r + t) (i .rows .complete r u t l h y))
+        (λ (y : (r ≡ s) × (bitAt b (128 * k + u) ≡ true)). let z = y .0 in absurd (omega arith))
+        (parts r u (h .from) x);
+  }
+
+  -- a row before s is as it was
+  kept : (t : ℕ) → t < 128 → k < s → bitAt c (128 * k + t) ≡ true → bitAt b (128 * k + t) ≡ true
+  kept t v l h =
+      ⊎-elim (λ (x : bitAt b (128 * k + t) ≡ true). x)
+      (λ (x : (k ≡ s) × (bitAt b (128 * k + t) ≡ true)). x .1)
+      (parts k t v h)
+
+  pub completing-turn : Completing m s c e
+  completing-turn = record {
+    rows = rows-on;
+    settled = λ u t h x.
+        ⊎-elim (λ (y : bitAt d u ≡ true). f .old (128 * s + t) (i .settled u t y x))
+        (⊎-elim (λ (y : u ≡ k). joined t (x .to) (i .rows .has (128 * k + t) (rw y at (x .move))))
+        (λ (y : (k < s) × Through c 0 k u).
+        let z = y .1 .row in
+        let w : u % 128 ≡ u = omega arith in
+        joined t (x .to) (kept t (x .to) (y .0) (rows-on .complete k u t (y .0) x (rw w at (y .1 .second))))))
+        (g .only u h);
+  }
+
+pub completing-done : {m : List ℕ} {s k : ℕ} {c d : List ℕ} → Completing m s c d → NextState c s d k → k ≡ 128 → Completed m (s + 1) c
+completing-done {m} {s} {k} {c} {d} i n e = record {
+  has = i .rows .has;
+  self = i .rows .self;
+  only = i .rows .only;
+  complete = λ r u t l x h.
+      ⊎-elim (λ (y : r < s). i .rows .complete r u t y x h)
+      (λ (y : s ≤ r).
+      let z : r ≡ s = omega arith in
+      rw z (i .settled u t (n .none e u (x .from) (rw z at h)) x))
+      (below-or-not r s);
+}
+
+-- ---- all rows
+
+pub completed-start : {m c : List ℕ} → Adds m (Same 128) c → Completed m 0 c
+completed-start {m} {c} f = record {
   has = f .old;
   self = λ s l. f .new (128 * s + s) record { row = omega arith; same = omega arith };
   only = λ s t l k e.
       ⊎-elim (λ (x : bitAt m (128 * s + t) ≡ true). after (start refl) record { from = l; to = k; move = x })
       (λ (x : Same 128 (128 * s + t)). let r = x .same in start (omega arith))
       (f .only (128 * s + t) e);
-  across = λ x s t l. absurd (omega arith);
+  complete = λ r k t l. absurd (omega arith);
 }
 
-module _ {m : List ℕ} (n : ℕ) (small : n ≤ 128) (low : LeaveBelow n m) where
-  module _ {b c : List ℕ} (k : ℕ) (l : k < n) (g : Growing m k b) (f : Adds b (Via b k n) c) where
-    -- a pair is an old one, or two old ones by way of k
-    parts : (s t : ℕ) → t < 128 → bitAt c (128 * s + t) ≡ true
-        → (bitAt b (128 * s + t) ≡ true) ⊎ ((bitAt b (128 * s + k) ≡ true) × (bitAt b (128 * k + t) ≡ true))
-    parts s t v e =
-        let x : (128 * s + t) / 128 ≡ s = omega arith in
-        let y : (128 * s + t) % 128 ≡ t = omega arith in
-        ⊎-elim (λ (h : bitAt b (128 * s + t) ≡ true). inl h)
-        (λ (h : Via b k n (128 * s + t)). inr (rw x at (h .first), rw y at (h .second)))
-        (f .only (128 * s + t) e)
-
-    -- a state from n on is paired with itself alone, so not with k
-    by-way : (s t : ℕ) → s < 128 → t < 128 → bitAt b (128 * s + k) ≡ true → bitAt b (128 * k + t) ≡ true → bitAt c (128 * s + t) ≡ true
-    by-way s t u v d e =
-        let x : (128 * s + t) / 128 ≡ s = omega arith in
-        let y : (128 * s + t) % 128 ≡ t = omega arith in
-        ⊎-elim (λ (h : s < n). f .new (128 * s + t) record { row = omega arith; first = rw x d; second = rw y e })
-        (λ (h : n ≤ s). let z = leads-nowhere low h (g .only s k u (omega arith) d) in absurd (omega arith))
+-- every state that a move leaves has its row complete
+pub completed-done : {m : List ℕ} (n : ℕ) → LeaveBelow n m → {c : List ℕ} → Completed m n c → Closed m c
+completed-done {m} n low {c} g = record { only = g .only; all = λ s t l r. every s l r }
+  where
+    every : (s : ℕ) → s < 128 → {t : ℕ} → Leads m s t → bitAt c (128 * s + t) ≡ true
+    every s l {t} (start e) = rw e (g .self s l)
+    every s l {t} (after {p} r h) =
+        ⊎-elim (λ (k : s < n). g .complete s p t k h (every s l r))
+        (λ (k : n ≤ s). let e = leads-nowhere low k (after r h) in rw e (g .self s l))
         (below-or-not s n)
-
-    -- pairs with k were there before
-    to-k : (s : ℕ) → bitAt c (128 * s + k) ≡ true → bitAt b (128 * s + k) ≡ true
-    to-k s e = ⊎-elim (λ (h : bitAt b (128 * s + k) ≡ true). h) (λ h. h .0) (parts s k (omega arith) e)
-
-    from-k : (t : ℕ) → t < 128 → bitAt c (128 * k + t) ≡ true → bitAt b (128 * k + t) ≡ true
-    from-k t v e = ⊎-elim (λ (h : bitAt b (128 * k + t) ≡ true). h) (λ h. h .1) (parts k t v e)
-
-    early : (x s t : ℕ) → x < k → s < 128 → t < 128 → bitAt c (128 * s + x) ≡ true → bitAt c (128 * x + t) ≡ true
-        → bitAt c (128 * s + t) ≡ true
-    early x s t i u v d e =
-        ⊎-elim
-        (λ (p : bitAt b (128 * s + x) ≡ true).
-        ⊎-elim
-        (λ (q : bitAt b (128 * x + t) ≡ true). f .old (128 * s + t) (g .across x s t i u v p q))
-        (λ (q : (bitAt b (128 * x + k) ≡ true) × (bitAt b (128 * k + t) ≡ true)).
-        by-way s t u v (g .across x s k i u (omega arith) p (q .0)) (q .1))
-        (parts x t v e))
-        (λ (p : (bitAt b (128 * s + k) ≡ true) × (bitAt b (128 * k + x) ≡ true)).
-        ⊎-elim
-        (λ (q : bitAt b (128 * x + t) ≡ true). by-way s t u v (p .0) (g .across x k t i (omega arith) v (p .1) q))
-        (λ (q : (bitAt b (128 * x + k) ≡ true) × (bitAt b (128 * k + t) ≡ true)). by-way s t u v (p .0) (q .1))
-        (parts x t v e))
-        (parts s x (omega arith) d)
-
-    pub growing-turn : Growing m (k + 1) c
-    growing-turn = record {
-      has = λ q e. f .old q (g .has q e);
-      self = λ s u. f .old (128 * s + s) (g .self s u);
-      only = λ s t u v e.
-          ⊎-elim (λ (h : bitAt b (128 * s + t) ≡ true). g .only s t u v h)
-          (λ (h : (bitAt b (128 * s + k) ≡ true) × (bitAt b (128 * k + t) ≡ true)).
-          leads-on (g .only s k u (omega arith) (h .0)) (g .only k t (omega arith) v (h .1)))
-          (parts s t v e);
-      across = λ x s t i u v d e.
-          ⊎-elim (λ (h : x < k). early x s t h u v d e)
-          (λ (h : k ≤ x).
-          let y : x ≡ k = omega arith in
-          by-way s t u v (to-k s (rw y at d)) (from-k t v (rw y at e)))
-          (below-or-not x k);
-    }
-
-  -- by way of every state that a move leaves
-  pub growing-done : {c : List ℕ} → Growing m n c → Closed m c
-  growing-done {c} g = record { only = g .only; all = λ s t l r. every s l r }
-    where
-      every : (s : ℕ) → s < 128 → {t : ℕ} → Leads m s t → bitAt c (128 * s + t) ≡ true
-      every s l {t} (start e) = rw e (g .self s l)
-      every s l {t} (after {p} r h) =
-          g .across p s t (low p t (h .to) (h .move)) l (h .to) (every s l r) (g .has (128 * p + t) (h .move))

@@ -2,4 +2,6 @@
 pub mod Sums
 -- Laws that the proofs of its functions cite.
 mod RowLaws
+mod Openings
+mod StartLaws
 mod Filling

@@ -1,7 +1,11 @@
 // The block of an owner: the rows of the span table that its walks from all starts fill.
+mod opening;
 mod starts;
 mod table;
+mod walked;
 
+use crate::opening::led_from;
+use crate::opening::size;
 use crate::starts::fill_start;
 use walk::Tally;
 ghost use Prim.Native.Nat.{_+_, _*_, _<_, _≤_};
@@ -35,6 +39,9 @@ pub fn fill_block(
         (now (rows .entry)) (now (word .entry)) (now (table .entry)))
         first x y flip count limit (now (table .exit)) (t .count) (t .spent) ⌝ }
 {
+    let mut memo = [0u64; 1024];
+    let opening = led_from(closed, x - 1, y - 1);
+    let places = size(&opening);
     let mut c = count;
     let mut i = 0;
     while i <= word.len() {
@@ -45,6 +52,9 @@ pub fn fill_block(
             rows,
             word,
             table,
+            &mut memo,
+            &opening,
+            places,
             first + i,
             i,
             x,

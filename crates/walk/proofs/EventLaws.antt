@@ -12,10 +12,10 @@ use lib.Bits.{bitAnd}
 use lib.Dec.{eqb}
 use borrow.Author.Tests.{eqb-false}
 use Rattle.bits.specs.Bit.{hasBit, bitAt, Merged, Adds}
-use Rattle.bits.proofs.Digits.{below-or-not, same-or-not}
+use Rattle.bits.proofs.Digits.{below-or-not, same-or-not, and-both, and-left, and-right}
 use Rattle.bits.proofs.Laws.{merged-adds, adds-then, adds-as}
 use Rattle.walk.specs.Levels.{MovedUp, LetterExit}
-use Rattle.walk.proofs.SetLaws.{word-bit, and-both, and-left, and-right}
+use Rattle.moves.proofs.RowLaws.{word-bit}
 
 -- ---- up by a bit
 

@@ -10,7 +10,7 @@ use Rattle.bits.specs.Bit.{hasBit, bitAt, Put, Merged, Adds}
 use Rattle.bits.proofs.Digits.{same-or-not}
 use Rattle.bits.proofs.Laws.{put-adds, merged-adds, adds-none, adds-then, adds-as, zeros-bit}
 use Rattle.walk.specs.Levels.{Missing, RowExit, DueExit, PutIf}
-use Rattle.walk.proofs.SetLaws.{word-bit}
+use Rattle.moves.proofs.RowLaws.{word-bit}
 
 -- ---- a row of the table
 

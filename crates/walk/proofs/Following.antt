@@ -1,29 +1,23 @@
 -- Free moves followed from each state of a set. Assumes nothing.
 use mathlib.Core.Path.{_≡_, refl, sym, ap, _∙_}
-use mathlib.Core.Bool.{true, or-false, or-true, _||_}
+use mathlib.Core.Bool.{true, false≢true, or-false, or-true, _||_}
 use mathlib.Core.Logic.{_⊎_, inl, inr, ⊎-elim}
 use mathlib.Core.List.{List}
 use Prim.Native.Nat.{ℕ, _+_, _-_, _*_, _%_, _^_, _<_}
 use native.Mathlib.Omega.{arith}
-use lib.ListN.{length, getD}
+use lib.ListN.{length, getD, replicate}
 use lib.Bits.{bitOr}
 use Rattle.bits.specs.Bit.{hasBit, bitAt, tallyBelow, Merged, Adds, First}
 use Rattle.bits.proofs.Digits.{same-or-not, has-or, power-has, power-lacks}
-use Rattle.bits.proofs.Laws.{adds-as}
-use Rattle.moves.proofs.RowLaws.{row-merged}
-use Rattle.walk.specs.Automaton.{Reflexive}
-use Rattle.walk.specs.Levels.{LedFrom, Followed, FollowedWord}
-use Rattle.walk.proofs.SetLaws.{word-bit, by-half}
-use Rattle.walk.proofs.Tallies.{left-less}
+use Rattle.bits.proofs.Laws.{adds-as, zeros-bit}
+use Rattle.bits.proofs.Tally.{left-less}
+use Rattle.moves.proofs.RowLaws.{word-bit, by-half, row-merged}
+use Rattle.walk.specs.Automaton.{Reflexive, Transitive}
+use Rattle.walk.specs.Levels.{LedTo, LedFrom, FollowedWord, AllLed}
 
 -- ---- what one state leads to
 
--- q is a state that s leads to
-pub record LedTo (c : List ℕ) (s q : ℕ) : Type 0 where
-  pub small : q < 128
-  pub leads : bitAt c (128 * s + q) ≡ true
-
-led-law : (c : List ℕ) {a b d : List ℕ} (s : ℕ) → Merged a 0 (getD c (2 * s) 0) b → Merged b 1 (getD c (2 * s + 1) 0) d
+pub led-law : (c : List ℕ) {a b d : List ℕ} (s : ℕ) → Merged a 0 (getD c (2 * s) 0) b → Merged b 1 (getD c (2 * s + 1) 0) d
     → Adds a (LedTo c s) d
 led-law c s f g =
     adds-as
@@ -67,9 +61,8 @@ module _ {c a d e : List ℕ} (w m n b : ℕ) (g : Following c a w n d e) (small
   b-small : b < 64
   b-small = let l = first .within in omega arith
 
-  pub following-turn : {f h : List ℕ} → Merged e 0 (getD c (2 * (64 * w + b)) 0) f → Merged f 1 (getD c (2 * (64 * w + b) + 1) 0) h
-      → Following c a w (bitOr n (2 ^ b)) d h
-  following-turn {f} {h} p q = record {
+  pub following-turn : {h : List ℕ} → Adds e (LedTo c (64 * w + b)) h → Following c a w (bitOr n (2 ^ b)) d h
+  following-turn {h} more-led = record {
     old = λ r x. more-led .old r (g .old r x);
     only = λ t k x.
         ⊎-elim
@@ -93,9 +86,6 @@ module _ {c a d e : List ℕ} (w m n b : ℕ) (g : Following c a w n d e) (small
       s-small : 64 * w + b < 128
       s-small = let l = b-small in omega arith
 
-      more-led : Adds e (LedTo c (64 * w + b)) h
-      more-led = led-law c (64 * w + b) p q
-
   pub following-less : 64 - tallyBelow 64 (λ (q : ℕ). hasBit q (bitOr n (2 ^ b))) < 64 - tallyBelow 64 (λ (q : ℕ). hasBit q n)
   following-less =
       left-less 64 (λ (q : ℕ). hasBit q n) (λ (q : ℕ). hasBit q (bitOr n (2 ^ b))) b (λ r. has-put-old b r n) b-small
@@ -110,19 +100,31 @@ following-done {c} {a} w m n b g word f q = record {
   long = g .long;
 }
 
--- ---- both numbers
+-- ---- both numbers, from the empty set on
 
-pub follow-both : {c a d e f : List ℕ} → FollowedWord c a 0 d e → FollowedWord c a 1 e f → Followed c a d f
-follow-both {c} {a} {d} {e} {f} g h = record {
-  all = by-half (λ (s : ℕ). bitAt a s ≡ true → bitAt f s ≡ true)
+module _ {c a e f : List ℕ} (g : FollowedWord c a 0 (replicate 2 0) e) (h : FollowedWord c a 1 e f) where
+  reached-states : (s : ℕ) → s < 128 → bitAt a s ≡ true → bitAt f s ≡ true
+  reached-states = by-half (λ (s : ℕ). bitAt a s ≡ true → bitAt f s ≡ true)
       (λ s l x. let z : 64 * 0 + s ≡ s = omega arith in h .old s (rw z at (g .all s l (rw z x))))
-      (λ s l x. h .all s l x);
-  old = λ s x. h .old s (g .old s x);
-  only = λ t k x.
+      (λ s l x. h .all s l x)
+
+  led : (t : ℕ) → t < 128 → bitAt f t ≡ true → LedFrom c a f t
+  led t k x =
       ⊎-elim
       (λ (y : bitAt e t ≡ true).
-      ⊎-elim (λ (z : bitAt d t ≡ true). inl z) (λ (z : LedFrom c a e t). inr (led-still t (h .old) z)) (g .only t k y))
-      (λ (y : LedFrom c a f t). inr y)
-      (h .only t k x);
-  long = h .long ∙ g .long;
-}
+      ⊎-elim (λ (z : bitAt (replicate 2 0) t ≡ true). absurd (false≢true (sym (zeros-bit 2 t) ∙ z)))
+      (λ (z : LedFrom c a e t). led-still t (h .old) z)
+      (g .only t k y))
+      (λ (y : LedFrom c a f t). y)
+      (h .only t k x)
+
+  -- what a state leads to, that leads to it leads to
+  pub follow-all : Transitive c → AllLed c a f
+  follow-all on = record {
+    all = λ s t k l x y.
+        let z = led s k (reached-states s k x) in
+        z .rest t l (on s (z .by) t k (z .small) l (z .leads) y);
+    only = λ t l x.
+        let z = led t l x in
+        record { by = z .by; small = z .small; there = z .there; leads = z .leads };
+  }

@@ -1,45 +1,44 @@
 -- One number of a walk, from its parts. Assumes nothing.
 use mathlib.Core.Path.{_≡_, refl, sym, ap, _∙_, subst}
-use mathlib.Core.Bool.{true, false, false≢true, true≢false}
+use mathlib.Core.Bool.{Bool, true, false, false≢true, true≢false}
 use mathlib.Core.Logic.{_⊎_, inl, inr, ⊎-elim}
 use mathlib.Core.List.{List}
 use Prim.Native.Nat.{ℕ, _+_, _-_, _*_, _/_, _%_, _≤_, _<_}
 use native.Mathlib.Omega.{arith}
 use lib.ListN.{length, getD}
-use lib.Bits.{bitOr, or-add-and, and-le-l, and-le-r}
-use Rattle.bits.specs.Bit.{hasBit, bitAt, tallyBelow, Adds}
-use Rattle.bits.proofs.Digits.{same-or-not, zero-has}
+use lib.Bits.{bitOr}
+use Rattle.bits.specs.Bit.{bitAt, tallyBelow, Adds}
+use Rattle.bits.proofs.Digits.{same-or-not}
 use Rattle.bits.proofs.Laws.{adds-as}
 use Rattle.bits.proofs.Tally.{tally-same}
 use Rattle.moves.specs.Reached.{Reached, start, after}
 use Rattle.moves.specs.Moves.{FreeMove}
 use Rattle.walk.specs.Automaton.{Automaton, FreeStep, LetterStep, SpanStep, Step, Ready}
-use Rattle.walk.specs.Levels.{Common, StateOf, Among, StatesAt, PlaceOf, AtRest, DueExit, Pending, OfOpen, NextExit}
-use Rattle.walk.specs.Levels.{SpanHere, StepHere, SpanExit, Saturated, MarkedExit, Given, Levelled}
-use Rattle.walk.proofs.SetLaws.{low-bit, high-bit, word-bit, by-half, same-bits}
+use Rattle.walk.specs.Levels.{Common, StateOf, Among, StatesAt, PlaceOf, Bare, AtRest, DueExit, Pending, OfOpen, NextExit}
+use Rattle.walk.specs.Levels.{SpanHere, StepHere, SpanExit, Saturated, Passed, MarkedExit, Given, Levelled}
+use Rattle.moves.proofs.RowLaws.{low-bit, high-bit, word-bit, by-half}
+use Rattle.walk.proofs.SetLaws.{same-bits, or-zero, no-bit}
 
 -- ---- nothing marked
 
-or-zero : (x y : ℕ) → bitOr x y ≡ 0 → (x ≡ 0) × (y ≡ 0)
-or-zero x y e = let h = or-add-and x y in let g = and-le-l x y in let k = and-le-r x y in (omega arith, omega arith)
-
-no-bit : (b x : ℕ) → x ≡ 0 → hasBit b x ≡ true → ⊥
-no-bit b x e d = false≢true (sym (ap (hasBit b) e ∙ zero-has b) ∙ d)
+pub bare-law : (m : List ℕ) (j : ℕ) → bitOr (getD m (2 * j) 0) (getD m (2 * j + 1) 0) ≡ 0 → Bare m j
+bare-law m j e =
+    let g = or-zero (getD m (2 * j) 0) (getD m (2 * j + 1) 0) e in
+    by-half (λ (s : ℕ). bitAt m (128 * j + s) ≡ true → ⊥)
+    (λ s l d.
+    let n : 128 * j + s ≡ 64 * (2 * j) + s = omega arith in
+    no-bit s (getD m (2 * j) 0) (g .0) (sym (ap (bitAt m) n ∙ word-bit m (2 * j) s l) ∙ d))
+    (λ s l d.
+    let n : 128 * j + (64 + s) ≡ 64 * (2 * j + 1) + s = omega arith in
+    no-bit s (getD m (2 * j + 1) 0) (g .1) (sym (ap (bitAt m) n ∙ word-bit m (2 * j + 1) s l) ∙ d))
 
 pub rest-law : (m v : List ℕ) (j : ℕ)
     → bitOr (bitOr (getD m (2 * j) 0) (getD m (2 * j + 1) 0)) (bitOr (getD v 0 0) (getD v 1 0)) ≡ 0 → AtRest m v j
 rest-law m v j e =
     let f = or-zero (bitOr (getD m (2 * j) 0) (getD m (2 * j + 1) 0)) (bitOr (getD v 0 0) (getD v 1 0)) e in
-    let g = or-zero (getD m (2 * j) 0) (getD m (2 * j + 1) 0) (f .0) in
     let h = or-zero (getD v 0 0) (getD v 1 0) (f .1) in
     record {
-      marked = by-half (λ (s : ℕ). bitAt m (128 * j + s) ≡ true → ⊥)
-          (λ s l d.
-          let n : 128 * j + s ≡ 64 * (2 * j) + s = omega arith in
-          no-bit s (getD m (2 * j) 0) (g .0) (sym (ap (bitAt m) n ∙ word-bit m (2 * j) s l) ∙ d))
-          (λ s l d.
-          let n : 128 * j + (64 + s) ≡ 64 * (2 * j + 1) + s = omega arith in
-          no-bit s (getD m (2 * j + 1) 0) (g .1) (sym (ap (bitAt m) n ∙ word-bit m (2 * j + 1) s l) ∙ d));
+      marked = bare-law m j (f .0);
       coming = by-half (λ (s : ℕ). bitAt v s ≡ true → ⊥)
           (λ s l d. no-bit s (getD v 0 0) (h .0) (sym (low-bit v s l) ∙ d))
           (λ s l d. no-bit s (getD v 1 0) (h .1) (sym (high-bit v s l) ∙ d));
@@ -216,27 +215,32 @@ module _ (t : Automaton) (ready : Ready t) (j : ℕ) (jn : j ≤ length (t .word
       g′)
       g
 
-  pub level-spent : (count limit c : ℕ) → c ≡ tallyBelow 128 (bitAt e) → limit < count + c → count ≤ limit
-      → Levelled t j count limit a x v b y v limit true
-  level-spent count limit c k l m =
-      let tb = tally-b in
-      record {
-        old = marked .old;
-        below = below-b;
-        only = only-b;
-        above = λ q d. ⊎-elim (λ (z : bitAt a q ≡ true). inl z) (λ (z : q / 128 ≤ j). inr (inl z)) (above-b q d);
-        waiting = waiting-b;
-        exits = exits-b;
-        stays = stays-b;
-        closed = λ f. absurd (true≢false f);
-        known = λ f. absurd (true≢false f);
-        inside = inside;
-        counted = λ f. absurd (true≢false f);
-        full = λ _. (refl, omega arith);
-        bounded = omega arith;
-        long = marked .long;
-        two = refl;
-      }
+  -- the entries of the open nodes after it
+  module _ {u inner : List ℕ} (m : Common e (t .specials) inner) (o : Adds v (StateOf inner) u) where
+    inside-u : Among u (t .specials)
+    inside-u s i d = ⊎-elim (λ (z : bitAt v s ≡ true). inside s i z) (λ (z : StateOf inner s). m .right s i (z .there)) (o .only s d)
+
+    level-spent : (count limit c : ℕ) → c ≡ limit → limit < count + tallyBelow 128 (bitAt e)
+        → Levelled t j count limit a x v b y u c true
+    level-spent count limit c k l =
+        let tb = tally-b in
+        record {
+          old = marked .old;
+          below = below-b;
+          only = only-b;
+          above = λ q d. ⊎-elim (λ (z : bitAt a q ≡ true). inl z) (λ (z : q / 128 ≤ j). inr (inl z)) (above-b q d);
+          waiting = waiting-b;
+          exits = exits-b;
+          stays = stays-b;
+          closed = λ f. absurd (true≢false f);
+          known = λ f. absurd (true≢false f);
+          inside = inside-u;
+          counted = λ f. absurd (true≢false f);
+          full = λ _. (k, omega arith);
+          bounded = omega arith;
+          long = marked .long;
+          two = o .long;
+        }
 
   module _ {b′ : List ℕ} (read : Adds b (NextExit (t .letters) (t .word) e j) b′) where
     -- letters lead to later numbers
@@ -300,8 +304,8 @@ module _ (t : Automaton) (ready : Ready t) (j : ℕ) (jn : j ≤ length (t .word
         g)
         (same-or-not (q / 128) j)
 
-    pub level-done : (count limit c : ℕ) {u inner : List ℕ} → Common e (t .specials) inner → Adds v (StateOf inner) u
-        → c ≡ tallyBelow 128 (bitAt e) → count + c ≤ limit → Levelled t j count limit a x v b′ y u (count + c) false
+    level-done : (count limit c : ℕ) {u inner : List ℕ} → Common e (t .specials) inner → Adds v (StateOf inner) u
+        → c ≡ count + tallyBelow 128 (bitAt e) → c ≤ limit → Levelled t j count limit a x v b′ y u c false
     level-done count limit c {u} {inner} m o k l = record {
       old = λ q d. read .old q (marked .old q d);
       below = λ q n d. below-b q n (back q (omega arith) d);
@@ -334,11 +338,23 @@ module _ (t : Automaton) (ready : Ready t) (j : ℕ) (jn : j ≤ length (t .word
           (λ (z : SpanExit (t .specials) (t .rows) (t .table) j e q).
           o .new (2 * (q / 256)) record { small = omega arith; there = m .both (2 * (q / 256)) (omega arith) (z .entry) (z .special) })
           (saturated .exits .only q d);
-      inside = λ s i d.
-          ⊎-elim (λ (z : bitAt v s ≡ true). inside s i z) (λ (z : StateOf inner s). m .right s i (z .there)) (o .only s d);
-      counted = λ _. ap (λ (n : ℕ). count + n) (k ∙ sym tally-b′);
+      inside = inside-u m o;
+      counted = λ _. k ∙ ap (λ (n : ℕ). count + n) (sym tally-b′);
       full = λ f. absurd (false≢true f);
       bounded = l;
       long = read .long ∙ marked .long;
       two = o .long;
     }
+
+-- the set that is reached at number j from the marks and the exits that are due, passed on
+pub level-law : (t : Automaton) → Ready t → (j : ℕ) → j ≤ length (t .word) → (a x v : List ℕ) → OfOpen x v → Among v (t .specials)
+    → {w todo e y b u inner : List ℕ} → StatesAt a j w → Adds w (DueExit x v j) todo
+    → Saturated (t .closed) (t .specials) (t .rows) (t .table) j todo x e y → Common e (t .specials) inner → Adds v (StateOf inner) u
+    → (count limit c : ℕ) (spent : Bool) → Passed (t .letters) (t .word) e j count limit a b c spent
+    → Levelled t j count limit a x v b y u c spent
+level-law t r j jn a x v known inside w d s m o count limit c true p =
+    let z = p .stop refl in
+    level-spent t r j jn a x v known inside w d s (z .marked) m o count limit c (z .spends) (z .full)
+level-law t r j jn a x v known inside w d s m o count limit c false p =
+    let z = p .on refl in
+    level-done t r j jn a x v known inside w d s (z .marked) (z .read) count limit c m o (z .counted) (z .bounded)

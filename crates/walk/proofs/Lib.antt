@@ -1,5 +1,7 @@
 -- What a walk comes to where the limit is spent.
 pub mod Spent
+-- What free moves lead to, remembered.
+pub mod Remembering
 -- Laws that the proofs of its functions cite.
 mod Tallies
 mod SetLaws
@@ -8,4 +10,5 @@ mod ExitLaws
 mod EventLaws
 mod Saturating
 mod LevelLaws
+mod PlainLaws
 mod Walks

@@ -1,41 +1,17 @@
 -- Sets of states as two numbers. Assumes nothing.
 use mathlib.Core.Path.{_≡_, refl, sym, ap, _∙_, subst}
-use mathlib.Core.Bool.{Bool, true, false}
-use mathlib.Core.Logic.{_⊎_, inl, inr, ⊎-elim}
+use mathlib.Core.Bool.{Bool, true, false, false≢true}
+use mathlib.Core.Logic.{_⊎_, inl, inr}
 use mathlib.Core.List.{List}
-use Prim.Native.Nat.{ℕ, _+_, _-_, _*_, _/_, _%_, _≤_, _<_}
+use Prim.Native.Nat.{ℕ, _+_, _-_, _*_, _/_, _%_, _^_, _≤_, _<_}
 use native.Mathlib.Omega.{arith}
 use lib.ListN.{getD}
-use lib.Bits.{bitAnd}
-use borrow.Author.Tests.{eq-eqb, eqb-true}
+use lib.Bits.{bitAnd, bitOr, or-add-and, and-le-l, and-le-r}
 use Rattle.bits.specs.Bit.{hasBit, bitAt, Put, Merged, Adds, First}
-use Rattle.bits.proofs.Digits.{below-or-not, digit, has-digit, digit-lt, digit-and}
-use Rattle.bits.proofs.Laws.{put-adds, adds-as}
-use Rattle.moves.proofs.RowLaws.{row-merged}
-use Rattle.walk.specs.Levels.{Missing, Common, StateOf, PutIf, StatesAt, PlaceOf}
-
--- ---- the bits of a set, by its two numbers
-
--- a bit of number w
-pub word-bit : (a : List ℕ) (w b : ℕ) → b < 64 → bitAt a (64 * w + b) ≡ hasBit b (getD a w 0)
-unfolding bitAt
-word-bit a w b l =
-    let x : (64 * w + b) % 64 ≡ b = omega arith in
-    let y : (64 * w + b) / 64 ≡ w = omega arith in
-    rw (x, y)
-
-pub low-bit : (a : List ℕ) (s : ℕ) → s < 64 → bitAt a s ≡ hasBit s (getD a 0 0)
-low-bit a s l = let e : s ≡ 64 * 0 + s = omega arith in ap (bitAt a) e ∙ word-bit a 0 s l
-
-pub high-bit : (a : List ℕ) (s : ℕ) → s < 64 → bitAt a (64 + s) ≡ hasBit s (getD a 1 0)
-high-bit a s l = word-bit a 1 s l
-
--- a claim on the states below 128, by the two numbers
-pub by-half : (P : ℕ → Type 0) → ((s : ℕ) → s < 64 → P s) → ((s : ℕ) → s < 64 → P (64 + s)) → (s : ℕ) → s < 128 → P s
-by-half P f g s l =
-    ⊎-elim (λ (h : s < 64). f s h)
-    (λ (h : 64 ≤ s). let e : 64 + (s - 64) ≡ s = omega arith in subst P e (g (s - 64) (omega arith)))
-    (below-or-not s 64)
+use Rattle.bits.proofs.Digits.{zero-has, and-both, and-left, and-right}
+use Rattle.bits.proofs.Laws.{merged-put, put-adds, adds-as}
+use Rattle.moves.proofs.RowLaws.{word-bit, low-bit, high-bit, by-half, row-merged}
+use Rattle.walk.specs.Levels.{Missing, Common, Apart, StateOf, PutIf, StatesAt, PlaceOf}
 
 pub same-bits : (x y : Bool) → (x ≡ true → y ≡ true) → (y ≡ true → x ≡ true) → x ≡ y
 same-bits true true f g = refl
@@ -67,22 +43,6 @@ module _ (a b : List ℕ) (low : ℕ) (f : First (getD a 0 0) (getD b 0 0) low) 
       }
 
 -- ---- what two sets have
-
-pub and-both : (b x y : ℕ) → hasBit b x ≡ true → hasBit b y ≡ true → hasBit b (bitAnd x y) ≡ true
-and-both b x y e f =
-    let p = eqb-true (digit b x) 1 (sym (has-digit b x) ∙ e) in
-    let q = eqb-true (digit b y) 1 (sym (has-digit b y) ∙ f) in
-    has-digit b (bitAnd x y) ∙ eq-eqb (digit b (bitAnd x y)) 1 (omega (arith, digit-and b x y))
-
-pub and-left : (b x y : ℕ) → hasBit b (bitAnd x y) ≡ true → hasBit b x ≡ true
-and-left b x y e =
-    let p = eqb-true (digit b (bitAnd x y)) 1 (sym (has-digit b (bitAnd x y)) ∙ e) in
-    has-digit b x ∙ eq-eqb (digit b x) 1 (omega (arith, digit-and b x y, digit-lt b x, digit-lt b y))
-
-pub and-right : (b x y : ℕ) → hasBit b (bitAnd x y) ≡ true → hasBit b y ≡ true
-and-right b x y e =
-    let p = eqb-true (digit b (bitAnd x y)) 1 (sym (has-digit b (bitAnd x y)) ∙ e) in
-    has-digit b y ∙ eq-eqb (digit b y) 1 (omega (arith, digit-and b x y, digit-lt b x, digit-lt b y))
 
 -- one number of the sets: h is 0 for the first, 1 for the second
 module _ (a b r : List ℕ) (h : ℕ) (e : getD r h 0 ≡ bitAnd (getD a h 0) (getD b h 0)) (s : ℕ) (l : s < 64) where
@@ -116,7 +76,32 @@ common-law a b r e f = record {
     each h (inl i) = rw i e
     each h (inr i) = rw i f
 
+-- two numbers of which there is neither
+pub or-zero : (x y : ℕ) → bitOr x y ≡ 0 → (x ≡ 0) × (y ≡ 0)
+or-zero x y e = let h = or-add-and x y in let g = and-le-l x y in let k = and-le-r x y in (omega arith, omega arith)
+
+pub no-bit : (b x : ℕ) → x ≡ 0 → hasBit b x ≡ true → ⊥
+no-bit b x e d = false≢true (sym (ap (hasBit b) e ∙ zero-has b) ∙ d)
+
+pub apart-law : (a b : List ℕ) → bitOr (bitAnd (getD a 0 0) (getD b 0 0)) (bitAnd (getD a 1 0) (getD b 1 0)) ≡ 0 → Apart a b
+apart-law a b e =
+    by-words (λ (s : ℕ). bitAt a s ≡ true → bitAt b s ≡ true → ⊥)
+    (λ h s i l x y.
+    no-bit s (bitAnd (getD a h 0) (getD b h 0)) (each h i)
+    (and-both s (getD a h 0) (getD b h 0) (sym (word-bit a h s l) ∙ x) (sym (word-bit b h s l) ∙ y)))
+  where
+    each : (h : ℕ) → (h ≡ 0) ⊎ (h ≡ 1) → bitAnd (getD a h 0) (getD b h 0) ≡ 0
+    each h (inl i) = rw i (or-zero (bitAnd (getD a 0 0) (getD b 0 0)) (bitAnd (getD a 1 0) (getD b 1 0)) e .0)
+    each h (inr i) = rw i (or-zero (bitAnd (getD a 0 0) (getD b 0 0)) (bitAnd (getD a 1 0) (getD b 1 0)) e .1)
+
 -- ---- a bit that is put, or not
+
+-- the state w * 64 + b, put into number w
+pub put-law : {a c : List ℕ} (w b q x : ℕ) → b < 64 → q ≡ 64 * w + b → x ≡ 2 ^ b → Merged a w x c → Put a q c
+put-law {a} {c} w b q x l e f m =
+    let y : q / 64 ≡ w = omega arith in
+    let z : q % 64 ≡ b = omega arith in
+    merged-put q (rw (y, z, ← f) m)
 
 pub put-if-put : (a : List ℕ) (p : ℕ) {b c : List ℕ} {q : ℕ} → bitAt a p ≡ true → Put b q c → Adds b (PutIf a p q) c
 put-if-put a p e h = adds-as (λ t i. (i, e)) (λ t i. i .0) (put-adds h)

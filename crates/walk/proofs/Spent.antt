@@ -7,7 +7,7 @@ use native.Mathlib.Omega.{arith}
 use lib.ListN.{length}
 use Rattle.bits.specs.Bit.{bitAt, tallyBelow}
 use Rattle.walk.specs.Automaton.{Automaton, Walked}
-use Rattle.walk.proofs.Tallies.{tally-up}
+use Rattle.bits.proofs.Tally.{tally-up}
 
 -- where the limit is spent, all that is marked is more than it allows
 pub walked-full : {t : Automaton} {count limit : ℕ} {a b : List ℕ} {c : ℕ} {spent : Bool} → Walked t count limit a b c spent → spent ≡ true

@@ -1,22 +1,22 @@
 -- The loop over the numbers of a walk: what holds before each number, and what it comes to. Assumes nothing.
-use mathlib.Core.Path.{_≡_, refl, sym, ap, _∙_}
+use mathlib.Core.Path.{_≡_, refl, sym, ap, _∙_, subst}
 use mathlib.Core.Bool.{Bool, true, false, false≢true, true≢false}
 use mathlib.Core.Logic.{_⊎_, inl, inr, ⊎-elim}
 use mathlib.Core.List.{List}
 use Prim.Native.Nat.{ℕ, _+_, _-_, _*_, _/_, _%_, _≤_, _<_}
 use native.Mathlib.Omega.{arith}
-use lib.ListN.{length, getD, replicate}
+use lib.ListN.{length, getD}
 use Rattle.bits.specs.Bit.{bitAt, tallyBelow}
 use Rattle.bits.proofs.Digits.{below-or-not, same-or-not}
-use Rattle.bits.proofs.Laws.{zeros-bit}
 use Rattle.bits.proofs.Tally.{tally-same, tally-none, tally-add}
 use Rattle.moves.specs.Reached.{Reached, start, after}
 use Rattle.moves.proofs.Paths.{reached-from}
-use Rattle.walk.specs.Automaton.{Automaton, FreeStep, LetterStep, SpanStep, Step, Ready, Walked}
-use Rattle.walk.specs.Levels.{Among, AtRest, Pending, OfOpen, MarkedExit, Given, Levelled}
+use Rattle.walk.specs.Automaton.{Automaton, FreeStep, LetterStep, SpanStep, Step, Ready, Walked, EndsBefore}
+use Rattle.walk.specs.Levels.{Among, Bare, AtRest, Pending, OfOpen, MarkedExit, Given, Levelled, Underway}
 use Rattle.walk.proofs.SetLaws.{same-bits}
 use Rattle.walk.proofs.Tallies.{tally-level}
 use Rattle.walk.proofs.LevelLaws.{coming-of, known-entry}
+use Rattle.walk.proofs.PlainLaws.{none, nothing, none-comes, none-of-open, nothing-among}
 
 -- a step does not lead past the word's end
 step-within : (t : Automaton) → Ready t → (p q : ℕ) → Step t p q → p / 128 ≤ length (t .word) → q / 128 ≤ length (t .word)
@@ -44,11 +44,11 @@ fails : (x : Bool) → (x ≡ true → ⊥) → x ≡ false
 fails true h = absurd (h refl)
 fails false h = refl
 
--- what a walk begins with: the marks a stand at number i
+-- what a walk begins with: the marks a stand at numbers up to i
 pub record Begun (t : Automaton) (i : ℕ) (a : List ℕ) : Type 0 where
   pub ready : Ready t
   pub number : i ≤ length (t .word)
-  pub marked : (q : ℕ) → bitAt a q ≡ true → q / 128 ≡ i
+  pub marked : (q : ℕ) → bitAt a q ≡ true → q / 128 ≤ i
   pub long : length a ≡ 512
 
 -- all that is reached is within the word
@@ -73,24 +73,66 @@ pub record Before (t : Automaton) (i count limit j : ℕ) (a b x v : List ℕ) (
   pub lengths : (length b ≡ 512) × (length x ≡ 256) × (length v ≡ 2)
 
 module _ {t : Automaton} {i count limit : ℕ} {a : List ℕ} where
-  pub before-start : Begun t i a → count ≤ limit → Before t i count limit i a a (replicate 256 0) (replicate 2 0) count
-  before-start u h =
-      let z = tally-none (128 * i) (bitAt a) (λ s k. fails (bitAt a s) (λ e. let n = u .marked s e in omega arith)) in
-      let un = u .number in
+  -- a walk goes on
+  pub before-start : {c : ℕ} → Ready t → (length a ≡ 512) × (i ≤ length (t .word)) × (c ≤ limit) → Underway t i c a
+      → c ≡ count + tallyBelow (128 * i) (bitAt a) → Before t i count limit i a a none nothing c
+  before-start {c} r n u h = record {
+    begun = record { ready = r; number = n .1; marked = u .marked; long = n .0 };
+    old = λ q e. e;
+    only = λ q e. start e;
+    coming = λ q _ _ w. absurd (none-comes (128 * (q % 128 - 1) + q / 128) (w .bit));
+    closed = λ p q k e d. inl (u .closed p q k e d);
+    above = u .marked;
+    known = none-of-open;
+    inside = nothing-among (t .specials);
+    counted = h;
+    bounded = n .2;
+    within = let m = n .1 in omega arith;
+    lengths = (n .0, refl, refl);
+  }
+
+  -- a walk begins: the marks stand at number i
+  pub before-first : Ready t → (length a ≡ 512) × (i ≤ length (t .word)) × (count ≤ limit) → ((q : ℕ) → bitAt a q ≡ true → q / 128 ≡ i)
+      → Before t i count limit i a a none nothing count
+  before-first r n m =
+      let z = tally-none (128 * i) (bitAt a) (λ s k. fails (bitAt a s) (λ e. let y = m s e in omega arith)) in
+      before-start r n
       record {
-        begun = u;
-        old = λ q e. e;
-        only = λ q e. start e;
-        coming = λ q _ _ w. absurd (false≢true (sym (zeros-bit 256 (128 * (q % 128 - 1) + q / 128)) ∙ w .bit));
-        closed = λ p q k e _. let w = u .marked p e in absurd (omega arith);
-        above = λ q e. let n = u .marked q e in omega arith;
-        known = λ q _ e. absurd (false≢true (sym (zeros-bit 256 q) ∙ e));
-        inside = λ s _ e. absurd (false≢true (sym (zeros-bit 2 s) ∙ e));
+        marked = λ q e. let y = m q e in omega arith;
+        closed = λ p q k e _. let y = m p e in absurd (omega arith);
         counted = omega arith;
-        bounded = h;
-        within = omega arith;
-        lengths = (u .long, refl, refl);
       }
+      (omega arith)
+
+  -- before number j of a walk that came to no special node
+  module _ {b : List ℕ} {c j : ℕ} (g : Before t i count limit j a b none nothing c) where
+    pub before-underway : Underway t j c b
+    before-underway = record {
+      marked = g .above;
+      closed = λ p q k e d.
+          ⊎-elim (λ (z : bitAt b q ≡ true). z) (λ z. absurd (none-comes (128 * (q % 128 - 1) + q / 128) (z .1 .bit))) (g .closed p q k e d);
+      counted = let n = g .counted in omega arith;
+    }
+
+    -- what is walked from its marks on is walked from the first ones
+    pub walked-on : {b′ : List ℕ} {c′ : ℕ} {spent : Bool} → Walked t (c - tallyBelow (128 * j) (bitAt b)) limit b b′ c′ spent
+        → Walked t count limit a b′ c′ spent
+    walked-on {b′} {c′} {spent} h =
+        let n = g .counted in
+        let k : c - tallyBelow (128 * j) (bitAt b) ≡ count = omega arith in
+        let w = subst (λ (m : ℕ). Walked t m limit b b′ c′ spent) k h in
+        record {
+          stop = w .stop;
+          only = λ q e. reached-from (g .only) (w .only q e);
+          all = λ q l r. w .all q l (reached-from (λ p e. start (g .old p e)) r);
+          above = w .above;
+          counted = w .counted;
+          before = w .before;
+          full = w .full;
+          spends = w .spends;
+          bounded = w .bounded;
+          long = w .long ∙ g .lengths .0 ∙ sym (g .begun .long);
+        }
 
   module _ {b b′ x x′ v v′ : List ℕ} {c c′ j : ℕ} {spent : Bool} (g : Before t i count limit j a b x v c) (jn : j ≤ length (t .word))
       (l : Levelled t j c limit b x v b′ x′ v′ c′ spent) where
@@ -178,7 +220,7 @@ module _ {t : Automaton} {i count limit : ℕ} {a : List ℕ} where
         (λ (k : j ≤ p / 128). l .stays p q (omega arith) (omega arith) u d)
         (below-or-not (p / 128) j)
 
-    pub before-spent : spent ≡ true → Walked t count limit a b′ c′ spent
+    pub before-spent : spent ≡ true → Walked t count limit a b′ c′ true
     before-spent f =
         let cx = g .counted in
         let cw = g .bounded in
@@ -188,11 +230,11 @@ module _ {t : Automaton} {i count limit : ℕ} {a : List ℕ} where
         record {
           stop = j;
           only = only-on;
-          all = λ q h r. up-to r (h f);
+          all = λ q h r. up-to r (h refl);
           above = λ _ q e.
               ⊎-elim (λ (z : bitAt b q ≡ true). g .above q z)
               (λ z. ⊎-elim (λ (y : q / 128 ≤ j). y) (λ y. absurd (true≢false (sym f ∙ y .0))) z) (l .above q e);
-          counted = λ z. absurd (true≢false (sym f ∙ z));
+          counted = λ z. absurd (true≢false z);
           before = λ _. (jn, omega arith);
           full = λ _. omega arith;
           spends = λ _. cy .0;
@@ -201,7 +243,7 @@ module _ {t : Automaton} {i count limit : ℕ} {a : List ℕ} where
         }
 
   -- where no more exit is to come, all that is reached is marked, and it is marked before j
-  finished : {b x v : List ℕ} {c j : ℕ} → Before t i count limit j a b x v c → ((q : ℕ) → bitAt b q ≡ true → q / 128 < j)
+  finished : {b x v : List ℕ} {c j : ℕ} → Before t i count limit j a b x v c → EndsBefore b j
       → ((q : ℕ) → j ≤ q / 128 → q / 128 ≤ length (t .word) → Pending x q → ⊥) → Walked t count limit a b c false
   finished {b} {x} {v} {c} {j} g marked over = record {
     stop = length (t .word);
@@ -232,18 +274,25 @@ module _ {t : Automaton} {i count limit : ℕ} {a : List ℕ} where
           (λ s _. fails (bitAt b (128 * j + s)) (λ y. let m = marked (128 * j + s) y in omega arith)) in
           omega arith
 
-  -- past the word's end
-  pub before-end : {b x v : List ℕ} {c j : ℕ} → Before t i count limit j a b x v c → length (t .word) < j → Walked t count limit a b c false
-  before-end {b} g e = finished g (λ q y. let n = reached-within (g .begun) (g .only q y) in omega arith) (λ q m n _. omega arith)
+  module _ {b x v : List ℕ} {c j : ℕ} (g : Before t i count limit j a b x v c) where
+    -- past the word's end
+    pub end-bare : length (t .word) < j → EndsBefore b j
+    end-bare e q y = let n = reached-within (g .begun) (g .only q y) in omega arith
 
-  -- where nothing is marked and no node is open
-  pub before-rest : {b x v : List ℕ} {c j : ℕ} → Before t i count limit j a b x v c → AtRest b v j → Walked t count limit a b c false
-  before-rest {b} {x} {v} {c} {j} g u = finished g
-      (λ q e.
-      let n = g .above q e in
-      ⊎-elim (λ (z : q / 128 < j). z)
-      (λ (z : j ≤ q / 128). let k : q ≡ 128 * j + q % 128 = omega arith in absurd (u .marked (q % 128) (omega arith) (rw k at e)))
-      (below-or-not (q / 128) j))
-      (λ q m n w.
-      let jw = g .begun .ready .word in
-      u .coming (q % 128 - 1) (omega arith) (known-entry v q (g .known) w (omega arith)))
+    pub before-end : length (t .word) < j → Walked t count limit a b c false
+    before-end e = finished g (end-bare e) (λ q m n _. omega arith)
+
+    -- where nothing is marked and no node is open
+    pub rest-bare : Bare b j → EndsBefore b j
+    rest-bare h q e =
+        let n = g .above q e in
+        ⊎-elim (λ (z : q / 128 < j). z)
+        (λ (z : j ≤ q / 128). let k : q ≡ 128 * j + q % 128 = omega arith in absurd (h (q % 128) (omega arith) (rw k at e)))
+        (below-or-not (q / 128) j)
+
+    pub before-rest : AtRest b v j → Walked t count limit a b c false
+    before-rest u =
+        finished g (rest-bare (u .marked))
+        (λ q m n w.
+        let jw = g .begun .ready .word in
+        u .coming (q % 128 - 1) (omega arith) (known-entry v q (g .known) w (omega arith)))

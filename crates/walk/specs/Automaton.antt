@@ -82,7 +82,27 @@ pub record Ready (t : Automaton) : Type 0 where
   pub special : Entries (t .specials)
   pub letter : (e s : ℕ) → s < 128 → bitAt (t .letters) (128 * e + s) ≡ true → s % 2 ≡ 0
 
+-- ---- what a walk remembers
+
+-- a state of slot j of the memo that leads to t
+pub record Remembers (closed memo : List ℕ) (j t : ℕ) : Type 0 where
+  pub by : ℕ
+  pub small : by < 128
+  pub there : bitAt memo (256 * j + by) ≡ true
+  pub leads : bitAt closed (128 * by + t) ≡ true
+
+-- the memo has a slot for each of 256 numbers, of four numbers: two for a set of states, and two for all that free moves lead to from it
+pub record Remembered (closed memo : List ℕ) : Type 0 where
+  pub long : length memo ≡ 1024
+  pub all : (j s t : ℕ) → j < 256 → s < 128 → t < 128 → bitAt memo (256 * j + s) ≡ true → bitAt closed (128 * s + t) ≡ true
+      → bitAt memo (256 * j + 128 + t) ≡ true
+  pub only : (j t : ℕ) → j < 256 → t < 128 → bitAt memo (256 * j + 128 + t) ≡ true → Remembers closed memo j t
+
 -- ---- what a walk leaves
+
+-- nothing is marked from number k on
+abbrev pub EndsBefore : (marks : List ℕ) (k : ℕ) → Type 0
+EndsBefore b k = (q : ℕ) → bitAt b q ≡ true → q / 128 < k
 
 -- b is a with all marked that is reached from its marks, and c is count and as many more. Where that would be more than the limit, the limit
 -- is spent: marked is what is reached up to number stop, at which the limit is passed, and c is the limit.

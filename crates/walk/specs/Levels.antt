@@ -26,6 +26,10 @@ pub record Common (a b r : List ℕ) : Type 0 where
   pub left : (s : ℕ) → s < 128 → bitAt r s ≡ true → bitAt a s ≡ true
   pub right : (s : ℕ) → s < 128 → bitAt r s ≡ true → bitAt b s ≡ true
 
+-- a and b have no state in common
+abbrev pub Apart : (a b : List ℕ) → Type 0
+Apart a b = (s : ℕ) → s < 128 → bitAt a s ≡ true → bitAt b s ≡ true → ⊥
+
 -- q is a state of the set
 pub record StateOf (set : List ℕ) (q : ℕ) : Type 0 where
   pub small : q < 128
@@ -50,33 +54,51 @@ pub record PlaceOf (set : List ℕ) (j q : ℕ) : Type 0 where
   pub number : q / 128 ≡ j
   pub there : bitAt set (q % 128) ≡ true
 
+-- nothing is marked at number j
+abbrev pub Bare : (marks : List ℕ) (j : ℕ) → Type 0
+Bare marks j = (s : ℕ) → s < 128 → bitAt marks (128 * j + s) ≡ true → ⊥
+
 -- nothing is marked at number j, and no special node is open
 pub record AtRest (marks opened : List ℕ) (j : ℕ) : Type 0 where
-  pub marked : (s : ℕ) → s < 128 → bitAt marks (128 * j + s) ≡ true → ⊥
+  pub marked : Bare marks j
   pub coming : (s : ℕ) → s < 128 → bitAt opened s ≡ true → ⊥
 
 -- ---- free moves
 
--- a state of a leads to t, and all that it leads to is in e
-pub record LedFrom (c a e : List ℕ) (t : ℕ) : Type 0 where
+-- q is a state that s leads to
+pub record LedTo (closed : List ℕ) (s q : ℕ) : Type 0 where
+  pub small : q < 128
+  pub leads : bitAt closed (128 * s + q) ≡ true
+
+-- q is such a state, if the run has bit p
+abbrev pub LedIf : (a : List ℕ) (p : ℕ) (closed : List ℕ) (s q : ℕ) → Type 0
+LedIf a p c s q = LedTo c s q × (bitAt a p ≡ true)
+
+-- a state of a leads to t
+pub record Led (closed a : List ℕ) (t : ℕ) : Type 0 where
   pub by : ℕ
   pub small : by < 128
   pub there : bitAt a by ≡ true
-  pub leads : bitAt c (128 * by + t) ≡ true
-  pub rest : (u : ℕ) → u < 128 → bitAt c (128 * by + u) ≡ true → bitAt e u ≡ true
+  pub leads : bitAt closed (128 * by + t) ≡ true
 
--- e is d with all that the states of a lead to
-pub record Followed (c a d e : List ℕ) : Type 0 where
-  pub all : (s : ℕ) → s < 128 → bitAt a s ≡ true → bitAt e s ≡ true
-  pub old : (s : ℕ) → bitAt d s ≡ true → bitAt e s ≡ true
-  pub only : (t : ℕ) → t < 128 → bitAt e t ≡ true → (bitAt d t ≡ true) ⊎ LedFrom c a e t
-  pub long : length e ≡ length d
+-- e has exactly the states that those of a lead to
+pub record AllLed (closed a e : List ℕ) : Type 0 where
+  pub all : (s t : ℕ) → s < 128 → t < 128 → bitAt a s ≡ true → bitAt closed (128 * s + t) ≡ true → bitAt e t ≡ true
+  pub only : (t : ℕ) → t < 128 → bitAt e t ≡ true → Led closed a t
 
--- e is d with all that the states of number w of a lead to
-pub record FollowedWord (c a : List ℕ) (w : ℕ) (d e : List ℕ) : Type 0 where
+-- a state of a leads to t, and all that it leads to is in e
+pub record LedFrom (closed a e : List ℕ) (t : ℕ) : Type 0 where
+  pub by : ℕ
+  pub small : by < 128
+  pub there : bitAt a by ≡ true
+  pub leads : bitAt closed (128 * by + t) ≡ true
+  pub rest : (u : ℕ) → u < 128 → bitAt closed (128 * by + u) ≡ true → bitAt e u ≡ true
+
+-- e is d with all that the states of number w of a lead to, where those that d has are passed over
+pub record FollowedWord (closed a : List ℕ) (w : ℕ) (d e : List ℕ) : Type 0 where
   pub all : (b : ℕ) → b < 64 → bitAt a (64 * w + b) ≡ true → bitAt e (64 * w + b) ≡ true
   pub old : (s : ℕ) → bitAt d s ≡ true → bitAt e s ≡ true
-  pub only : (t : ℕ) → t < 128 → bitAt e t ≡ true → (bitAt d t ≡ true) ⊎ LedFrom c a e t
+  pub only : (t : ℕ) → t < 128 → bitAt e t ≡ true → (bitAt d t ≡ true) ⊎ LedFrom closed a e t
   pub long : length e ≡ length d
 
 -- ---- exits to come
@@ -152,6 +174,25 @@ pub record Saturated (c specials rows table : List ℕ) (j : ℕ) (a x e y : Lis
 
 -- ---- one number of a walk
 
+-- the set's places at number j are marked and counted, and the next event is read
+pub record WentOn (letters word set : List ℕ) (j count limit : ℕ) (a b : List ℕ) (c : ℕ) : Type 0 where
+  pub middle : List ℕ
+  pub marked : Adds a (PlaceOf set j) middle
+  pub read : Adds middle (NextExit letters word set j) b
+  pub counted : c ≡ count + tallyBelow 128 (bitAt set)
+  pub bounded : c ≤ limit
+
+-- the set's places at number j are marked, and with them the limit is passed
+pub record Stopped (set : List ℕ) (j count limit : ℕ) (a b : List ℕ) (c : ℕ) : Type 0 where
+  pub marked : Adds a (PlaceOf set j) b
+  pub spends : c ≡ limit
+  pub full : limit < count + tallyBelow 128 (bitAt set)
+
+-- the one or the other
+pub record Passed (letters word set : List ℕ) (j count limit : ℕ) (a b : List ℕ) (c : ℕ) (spent : Bool) : Type 0 where
+  pub on : spent ≡ false → WentOn letters word set j count limit a b c
+  pub stop : spent ≡ true → Stopped set j count limit a b c
+
 -- q is an exit to come of a special node whose entry is marked at number j
 pub record MarkedExit (t : Automaton) (marks : List ℕ) (j q : ℕ) : Type 0 where
   pub small : q < 16384
@@ -180,3 +221,11 @@ pub record Levelled (t : Automaton) (j count limit : ℕ) (a x v b y u : List �
   pub bounded : c ≤ limit
   pub long : length b ≡ length a
   pub two : length u ≡ length v
+
+-- ---- a walk that is underway
+
+-- what a walk goes on from at number i: the marks stand at numbers up to i, those below are counted and lead to no place that is not marked
+pub record Underway (t : Automaton) (i count : ℕ) (a : List ℕ) : Type 0 where
+  pub marked : (q : ℕ) → bitAt a q ≡ true → q / 128 ≤ i
+  pub closed : (p q : ℕ) → p / 128 < i → bitAt a p ≡ true → Step t p q → bitAt a q ≡ true
+  pub counted : tallyBelow (128 * i) (bitAt a) ≤ count

@@ -1,6 +1,7 @@
 // Exits to come of the special nodes that were entered: bit 256 * i + k where node i is left at number k.
 use crate::sets::first_missing;
 use crate::sets::put_if;
+use crate::sets::put_state;
 ghost use mathlib.Core.Path.{_≡_};
 ghost use Prim.Native.Nat.{_+_, _*_, _<_, _≤_};
 ghost use lib.ListN.{length};
@@ -31,7 +32,7 @@ pub fn add_due(exits: &[u64], opened: &[u64], todo: &mut [u64], j: usize)
         if s == 128 {
             return;
         }
-        bits::put(&mut done, s);
+        put_state(&mut done, s);
         put_if(exits, 128 * s + j, todo, s + 1);
     }
 }

@@ -1,9 +1,29 @@
 // Free moves, which are closed: one look at a state's row leads to all that it leads to.
 ghost use mathlib.Core.Path.{_≡_};
-ghost use Prim.Native.Nat.{_<_};
+ghost use Prim.Native.Nat.{_*_, _<_};
 ghost use lib.ListN.{length};
-ghost use Rattle.walk.specs.Automaton.{Reflexive};
-ghost use Rattle.walk.specs.Levels.{Followed, FollowedWord};
+ghost use Rattle.bits.specs.Bit.{Adds};
+ghost use Rattle.walk.specs.Automaton.{Reflexive, Transitive};
+ghost use Rattle.walk.specs.Levels.{LedTo, LedIf, AllLed, FollowedWord};
+
+// Adds to the set the states that s leads to.
+fn lead(closed: &[u64], s: usize, set: &mut [u64])
+    requires { ⌜ (length (now closed) ≡ 256) × (s < 128) × (length (now set) ≡ 2) ⌝ }
+    ensures { λ _. ⌜ Adds (now (set .entry)) (LedTo (now (closed .entry)) s) (now (set .exit)) ⌝ }
+{
+    bits::merge(set, 0, closed[2 * s]);
+    bits::merge(set, 1, closed[2 * s + 1]);
+}
+
+// Adds to the set the states that s leads to, if bit p of the run is set.
+pub fn lead_if(a: &[u64], p: usize, closed: &[u64], s: usize, set: &mut [u64])
+    requires { ⌜ (p < 64 * length (now a)) × (length (now closed) ≡ 256) × (s < 128) × (length (now set) ≡ 2) ⌝ }
+    ensures { λ _. ⌜ Adds (now (set .entry)) (LedIf (now (a .entry)) p (now (closed .entry)) s) (now (set .exit)) ⌝ }
+{
+    if bits::test(a, p) {
+        lead(closed, s, set);
+    }
+}
 
 // Adds to the set what the states of number w of todo lead to.
 fn follow_word(closed: &[u64], todo: &[u64], set: &mut [u64], w: usize)
@@ -19,18 +39,19 @@ fn follow_word(closed: &[u64], todo: &[u64], set: &mut [u64], w: usize)
             return;
         }
         d = d | bits::one(b);
-        let s = 64 * w + b;
-        bits::merge(set, 0, closed[2 * s]);
-        bits::merge(set, 1, closed[2 * s + 1]);
+        lead(closed, 64 * w + b, set);
     }
 }
 
-// Adds to the set what the states of todo lead to.
-pub fn follow(closed: &[u64], todo: &[u64], set: &mut [u64])
-    requires { ⌜ (length (now closed) ≡ 256) × (length (now todo) ≡ 2) × (length (now set) ≡ 2) ⌝ }
+// The states that those of todo lead to.
+pub fn follow(closed: &[u64], todo: &[u64]) -> [u64; 2]
+    requires { ⌜ (length (now closed) ≡ 256) × (length (now todo) ≡ 2) ⌝ }
     requires { ⌜ Reflexive (now closed) ⌝ }
-    ensures { λ _. ⌜ Followed (now (closed .entry)) (now (todo .entry)) (now (set .entry)) (now (set .exit)) ⌝ }
+    requires { ⌜ Transitive (now closed) ⌝ }
+    ensures { λ r. ⌜ AllLed (now (closed .entry)) (now (todo .entry)) r ⌝ }
 {
-    follow_word(closed, todo, set, 0);
-    follow_word(closed, todo, set, 1);
+    let mut set = [0u64; 2];
+    follow_word(closed, todo, &mut set, 0);
+    follow_word(closed, todo, &mut set, 1);
+    set
 }

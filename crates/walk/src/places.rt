@@ -4,7 +4,7 @@ ghost use mathlib.Core.Bool.{true};
 ghost use Prim.Native.Nat.{_<_};
 ghost use lib.ListN.{length};
 ghost use Rattle.bits.specs.Bit.{Adds};
-ghost use Rattle.walk.specs.Levels.{StatesAt, PlaceOf, AtRest};
+ghost use Rattle.walk.specs.Levels.{StatesAt, PlaceOf, Bare, AtRest};
 
 // The marked states at number j.
 pub fn states_at(marks: &[u64], j: usize) -> [u64; 2]
@@ -24,6 +24,14 @@ pub fn mark(marks: &mut [u64], set: &[u64], j: usize)
 {
     bits::merge(marks, 2 * j, set[0]);
     bits::merge(marks, 2 * j + 1, set[1]);
+}
+
+// Tells that nothing is marked at number j.
+pub fn bare(marks: &[u64], j: usize) -> bool
+    requires { ⌜ (length (now marks) ≡ 512) × (j < 256) ⌝ }
+    ensures { λ r. ⌜ (r ≡ true → Bare (now (marks .entry)) j) ⌝ }
+{
+    marks[2 * j] | marks[2 * j + 1] == 0
 }
 
 // Tells that nothing is marked at number j and no special node is open.

@@ -1,9 +1,10 @@
 // Sets of states: two u64 each, state s as bit s.
 ghost use mathlib.Core.Path.{_≡_};
+ghost use mathlib.Core.Bool.{false};
 ghost use Prim.Native.Nat.{ℕ, _*_, _≤_, _<_};
 ghost use lib.ListN.{length};
-ghost use Rattle.bits.specs.Bit.{hasBit, bitAt, tallyBelow, Adds};
-ghost use Rattle.walk.specs.Levels.{Missing, Common, StateOf, PutIf};
+ghost use Rattle.bits.specs.Bit.{hasBit, bitAt, tallyBelow, Put, Adds};
+ghost use Rattle.walk.specs.Levels.{Missing, Common, Apart, StateOf, PutIf};
 
 // A state of a that b lacks; 128 where there is none.
 pub fn first_missing(a: &[u64], b: &[u64]) -> usize
@@ -28,6 +29,14 @@ pub fn intersect(a: &[u64], b: &[u64]) -> [u64; 2]
     r
 }
 
+// Whether the sets have a state in common.
+pub fn meets(a: &[u64], b: &[u64]) -> bool
+    requires { ⌜ (length (now a) ≡ 2) × (length (now b) ≡ 2) ⌝ }
+    ensures { λ r. ⌜ (r ≡ false → Apart (now (a .entry)) (now (b .entry))) ⌝ }
+{
+    (a[0] & b[0]) | (a[1] & b[1]) != 0
+}
+
 // Adds the states of b to a.
 pub fn unite(a: &mut [u64], b: &[u64])
     requires { ⌜ (length (now a) ≡ 2) × (length (now b) ≡ 2) ⌝ }
@@ -37,13 +46,25 @@ pub fn unite(a: &mut [u64], b: &[u64])
     bits::merge(a, 1, b[1]);
 }
 
-// Sets bit q of the set, if bit p of the run is set.
+// Adds the state q; the set's numbers are reached by constants, which keeps a set out of memory.
+pub fn put_state(set: &mut [u64], q: usize)
+    requires { ⌜ (length (now set) ≡ 2) × (q < 128) ⌝ }
+    ensures { λ _. ⌜ Put (now (set .entry)) q (now (set .exit)) ⌝ }
+{
+    if q < 64 {
+        bits::merge(set, 0, bits::one(q));
+        return;
+    }
+    bits::merge(set, 1, bits::one(q - 64));
+}
+
+// Adds the state q, if bit p of the run is set.
 pub fn put_if(a: &[u64], p: usize, set: &mut [u64], q: usize)
-    requires { ⌜ (p < 64 * length (now a)) × (q < 64 * length (now set)) ⌝ }
+    requires { ⌜ (p < 64 * length (now a)) × (length (now set) ≡ 2) × (q < 128) ⌝ }
     ensures { λ _. ⌜ Adds (now (set .entry)) (PutIf (now (a .entry)) p q) (now (set .exit)) ⌝ }
 {
     if bits::test(a, p) {
-        bits::put(set, q);
+        put_state(set, q);
     }
 }
 

@@ -8,5 +8,5 @@ use Rattle.listing.proofs.fields.field_length.Tie as tie
 pub field-length-spec : {M : Type 1} → statement M
 field-length-spec =
     tie.close (tie.spec (λ c κs. search needs)
-    (λ c. omega (arith, c .before .digits-of .ensures .0 .1, decimal-length (c .before .before .args .x)))
-    (λ c. omega (arith, c .before .digits-of .ensures .0 .1, decimal-length (c .before .before .args .x))))
+    (λ c. omega (arith, c .width .ensures, decimal-length (c .before .args .x)))
+    (λ c. omega (arith, c .width .ensures, decimal-length (c .before .args .x))))

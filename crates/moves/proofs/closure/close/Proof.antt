@@ -6,37 +6,33 @@ use borrow.Author.Needs.{needs}
 use native.Mathlib.Omega.{arith}
 use lib.ListN.{length}
 use Rattle.bits.specs.Bit.{Adds}
-use Rattle.moves.specs.Closing.{Same, LeaveBelow}
-use Rattle.moves.proofs.ClosingLaws.{Growing, growing-start, growing-turn, growing-done}
+use Rattle.moves.specs.Closing.{Completed, Same}
+use Rattle.moves.proofs.ClosingLaws.{completed-start, completed-done}
 use Rattle.moves.proofs.closure.close.Statement.{statement}
 use Rattle.moves.proofs.closure.close.Tie as tie
 
 abbrev Inv-loop : tie.InvT-loop
-Inv-loop c₀ n k₀ c k = (k ≤ n) × (length c ≡ 256) × ((m : List ℕ) → LeaveBelow n m → Adds m (Same 128) c₀ → Growing m k c)
+Inv-loop c₀ n s₀ c s = (s ≤ n) × (length c ≡ 256) × ((m : List ℕ) → Adds m (Same 128) c₀ → Completed m s c)
 
 abbrev μ-loop : tie.MeasureT-loop
-μ-loop c₀ n k₀ c k = n - k
+μ-loop c₀ n s₀ c s = n - s
 
 pub close-spec : {M : Type 1} → statement M
 close-spec =
     tie.close (tie.spec Inv-loop μ-loop
     (λ c κs. search needs)
-    (λ c. (search needs, search needs, λ m low f. growing-start f))
+    (λ c. (search needs, search needs, λ m f. completed-start f))
     (λ c κs. search needs)
     (λ c. search needs)
     (λ c. search needs)
     (λ c.
     let l = c .before .before .before .before .before in
-    let n = l .before .before .before .before .before .before .args .n in (
-      omega arith,
-      search needs,
-      λ m low f.
-          growing-turn n (omega arith) low (l .loop .k) (omega arith) (l .loop .inv .2 m low f) (c .before .before .stage .ensures),
-    ))
+    let n = l .before .before .before .before .before .before .args .n in
+    (omega arith, search needs, λ m f. c .before .before .complete .ensures m (l .loop .inv .2 m f)))
     (λ c. search needs)
     (λ c.
     let l = c .before in
     let d = l .before .before .before in
     let s = d .before .before .before in
-    let e : l .loop .k ≡ s .args .n = omega arith in
-    growing-done (s .args .n) (s .pre .1) (s .pre .2) (rw e at (l .loop .inv .2 (s .args .c .now) (s .pre .2) (d .diagonal .ensures)))))
+    let e : l .loop .s ≡ s .args .n = omega arith in
+    completed-done (s .args .n) (s .pre .2) (rw e at (l .loop .inv .2 (s .args .c .now) (d .diagonal .ensures)))))

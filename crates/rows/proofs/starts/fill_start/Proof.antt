@@ -1,55 +1,39 @@
--- `fill_start` walks from one start, and writes its row. Assumes nothing.
-use mathlib.Core.Path.{refl, sym, _∙_}
-use mathlib.Core.Bool.{true≢false}
+-- `fill_start` fills the row of a start that dies, or walks. Assumes nothing.
 use borrow.Author.Needs.{needs}
-use Rattle.bits.proofs.Laws.{put-adds, adds-then}
-use Rattle.rows.proofs.RowLaws.{starts-at, started}
+use Rattle.rows.proofs.Openings.{stayed-started}
 use Rattle.rows.proofs.starts.fill_start.Statement.{statement}
 use Rattle.rows.proofs.starts.fill_start.Tie as tie
 
 pub fill-start-spec : {M : Type 1} → statement M
 fill-start-spec =
     tie.close (tie.spec
-    (λ c. search needs) (λ c. search needs) (λ c. search needs) (λ c. search needs) (λ c κs. search needs)
-    (λ c. search needs) (λ c. search needs) (λ c. search needs) (λ c. search needs) (λ c κs. search needs)
-    (λ c. search needs)
-    -- walk-requires
+    -- dies-requires
     (λ c κs.
-    let v = c .before .before .before in
-    let u = v .before .before .before in
-    let s = u .before .before .before .before .before .before .before .before in
-    let a = s .args in
-    let p = s .pre .1 in
-    let q = p .1 in
-    let b = adds-then (put-adds (u .put .ensures .1)) (put-adds (v .put2 .ensures .1)) in
-    (s .pre .0, ((b .long, p .0 .2, q .4), starts-at (a .i) (a .x) (a .y) (q .0) (q .1) (q .2) (q .3) b)))
+    let p = c .before .before .before .before .before .before .before .before .pre in
+    let q = p .1 .1 in
+    (p .0 .letters, p .0 .specials, q .1 .1 .0 .0, q .0 .2))
+    -- fill-dead-requires
+    (λ c κs.
+    let p = c .before .before .before .before .before .before .before .before .before .before .before .pre in
+    let q = p .1 .1 in
+    let z = q .1 .0 in
+    ((q .0 .0, q .0 .1, q .0 .2, p .0 .word, z .1, z .3, z .4), q .1 .1 .0))
     (λ c. search needs)
     -- returns
     (λ c.
-    let v = c .before .before .before .before .before .before in
-    let u = v .before .before .before in
-    let a = u .before .before .before .before .before .before .before .before .args in
-    let b = adds-then (put-adds (u .put .ensures .1)) (put-adds (v .put2 .ensures .1)) in
-    started (a .r) (a .i) (a .x) (a .y) (a .flip) b
-    (c .before .before .walk .ensures) (λ f. absurd (true≢false (sym (c .if1 .taken) ∙ f))) (λ f. refl))
-    (λ c. search needs)
-    -- write-row-requires
+    let i = c .before .before .before .before in
+    let p = i .before .before .before .before .before .before .before .before .before .before .pre in
+    let q = p .1 .1 in
+    let z = q .1 .0 in
+    let d = i .before .dies .ensures (i .if1 .taken) in (
+      stayed-started (p .0) (q .0 .2) (z .0, z .1) (z .2, z .3) (q .1 .1 .0 .0) (q .1 .1 .1) d (c .before .before .fill-dead .ensures),
+      p .1 .0,
+    ))
+    -- fill-walked-requires
     (λ c κs.
-    let t = c .before .before .before .before in
-    let v = t .before .before .before .before in
-    let u = v .before .before .before in
-    let s = u .before .before .before .before .before .before .before .before in
-    let p = s .pre .1 in
-    let l = t .walk .ensures .long ∙ v .put2 .ensures .1 .long ∙ u .put .ensures .1 .long in
-    ((p .0 .0, p .0 .1, l), (p .0 .2, s .pre .0 .word, p .1 .1, p .1 .3)))
-    (λ c. search needs)
+    let p = c .before .before .before .before .before .before .before .before .before .before .before .before .pre in
+    let q = p .1 .1 in
+    (p .0, (p .1 .0, (q .0, q .1 .0))))
+    (λ c. search needs) (λ c. search needs)
     -- returns-2
-    (λ c.
-    let t = c .before .before .before .before .before .before .before in
-    let v = t .before .before .before .before in
-    let u = v .before .before .before in
-    let a = u .before .before .before .before .before .before .before .before .args in
-    let b = adds-then (put-adds (u .put .ensures .1)) (put-adds (v .put2 .ensures .1)) in
-    started (a .r) (a .i) (a .x) (a .y) (a .flip) b
-    (t .walk .ensures) (λ f. c .before .before .write-row .ensures)
-    (λ f. absurd (true≢false (sym f ∙ c .before .before .before .before .before .if1 .left)))))
+    (λ c. c .before .before .before .before .fill-walked .ensures))

@@ -26,12 +26,10 @@ follow-word-spec =
     let d = c .before in
     let i = d .before .loop .inv in
     following-done _ _ _ _ (i .2) (i .0) (d .first .ensures) (c .if1 .taken))
-    (λ c κs. search needs) (λ c. search needs) (λ c. search needs) (λ c. search needs) (λ c. search needs)
-    (λ c. search needs) (λ c κs. search needs) (λ c. search needs) (λ c. search needs) (λ c. search needs)
-    (λ c. search needs) (λ c κs. search needs)
+    (λ c κs. search needs) (λ c. search needs) (λ c. search needs) (λ c κs. search needs)
     -- loop-less
     (λ c.
-    let o = c .before .before .before .before .before .before .before .before .before .before in
+    let o = c .before .before .before .before in
     let f = o .before .before in
     let s = f .before .before .before .before .before .before .before in
     let i = f .before .loop .inv in
@@ -41,13 +39,12 @@ follow-word-spec =
     -- loop-again
     (λ c.
     let m = c .before .before in
-    let n = m .before .before .before .before .before in
-    let o = n .before .before .before in
+    let o = m .before .before in
     let f = o .before .before in
     let s = f .before .before .before .before .before .before .before in
     let i = f .before .loop .inv in
     let e = o .before .if1 .left in
     let g =
     following-turn (s .args .w) _ (f .before .loop .d) (f .first .result) (i .2) (omega arith) (s .pre .1) (i .0) (f .first .ensures) e
-    (n .merge .ensures .1) (m .merge2 .ensures .1) in
+    (m .lead .ensures) in
     (i .0, g .long ∙ s .pre .0 .2, rw (o .one .ensures) g)))

@@ -1,7 +1,7 @@
 -- `ones` counts the bits that are set. Assumes nothing.
 use lib.Count.{ones-le}
 use native.Mathlib.Omega.{arith}
-use Rattle.walk.proofs.Tallies.{ones-tally}
+use Rattle.bits.proofs.Packed.{number-ones}
 use Rattle.walk.proofs.sets.ones.Statement.{statement}
 use Rattle.walk.proofs.sets.ones.Tie as tie
 
@@ -11,4 +11,4 @@ ones-spec =
     -- cast-result
     (λ c. let h = ones-le 64 (c .args .x) (omega arith) in omega arith)
     -- returns
-    (λ c. (ones-tally (c .args .x) (omega arith), ones-le 64 (c .args .x) (omega arith))))
+    (λ c. (number-ones (c .args .x) (omega arith), ones-le 64 (c .args .x) (omega arith))))

@@ -1,0 +1,74 @@
+//! What is asked of the judges' ratios: to the baseline, each beside its target, and to the tuned judge, for comparison.
+
+use bench::rules::Group;
+
+use crate::judging::Measured;
+use crate::target::print_target;
+use crate::timing::{median, Times};
+
+/// Only rules that take the baseline longer than this, in microseconds, count for the ratios of slow rules.
+const SLOW: f64 = 1000.0;
+
+/// The ratios that are asked for, of one kind.
+struct Ratios {
+    /// The greatest and the median one of the slow rules, if there are any.
+    slow: Option<(f64, f64)>,
+    /// The greatest one of the everyday rules.
+    everyday: f64,
+}
+
+impl Ratios {
+    fn of(measured: &[Measured], ratio: fn(&Times) -> f64) -> Ratios {
+        let mut slow: Vec<f64> = slow(measured).map(|one| ratio(&one.times)).collect();
+        Ratios {
+            slow: (!slow.is_empty()).then(|| (greatest(slow.iter().copied()), median(&mut slow))),
+            everyday: greatest(everyday(measured).map(|one| ratio(&one.times))),
+        }
+    }
+}
+
+/// Writes the numbers that have a target, each beside it: the ratios to the baseline, and the everyday time.
+pub fn print_targets(measured: &[Measured]) {
+    let ratios = Ratios::of(measured, Times::against_baseline);
+    println!(
+        "Rules that take the baseline more than 1 ms: {}",
+        slow(measured).count()
+    );
+    if let Some((most, middle)) = ratios.slow {
+        print_target("greatest ratio", most, 2, "at most 1.0", most <= 1.0);
+        print_target("median ratio", middle, 2, "at most 0.7", middle <= 0.7);
+    }
+    println!("Everyday rules, n = 255: {}", everyday(measured).count());
+    let most = ratios.everyday;
+    print_target("greatest ratio", most, 2, "at most 2.0", most <= 2.0);
+    let time = greatest(everyday(measured).map(|one| one.times.proved));
+    let what = "greatest proved time, in µs";
+    print_target(what, time, 1, "below 100", time < 100.0);
+}
+
+/// Writes the same ratios to the tuned judge, over the same rules.
+pub fn print_comparison(measured: &[Measured]) {
+    let ratios = Ratios::of(measured, Times::against_tuned);
+    println!("For comparison, the same rules against the tuned judge, without a target:");
+    println!();
+    if let Some((most, middle)) = ratios.slow {
+        println!("- slow rules, greatest ratio: {most:.2}");
+        println!("- slow rules, median ratio: {middle:.2}");
+    }
+    println!("- everyday rules, greatest ratio: {:.2}", ratios.everyday);
+}
+
+/// The rules, with their words, that take the baseline long.
+fn slow<'a>(measured: &'a [Measured<'a>]) -> impl Iterator<Item = &'a Measured<'a>> {
+    measured.iter().filter(|one| one.times.baseline > SLOW)
+}
+
+fn everyday<'a>(measured: &'a [Measured<'a>]) -> impl Iterator<Item = &'a Measured<'a>> {
+    measured
+        .iter()
+        .filter(|one| one.rule.group == Group::Everyday && one.n == 255)
+}
+
+fn greatest(values: impl IntoIterator<Item = f64>) -> f64 {
+    values.into_iter().fold(0.0, f64::max)
+}

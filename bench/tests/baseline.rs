@@ -1,0 +1,85 @@
+//! The unproved judges on cases that are known: the days of document 01, the edges of a row, and the program's one whole case.
+
+use bench::blocks::empty_table;
+use bench::judge::Judge;
+use bench::row::{flip_between, next_bit, NO_BITS};
+use bench::rules::rules;
+use bench::{baseline, job, tuned};
+
+const JUDGES: [(&str, Judge); 2] = [("baseline", baseline::judge), ("tuned", tuned::judge)];
+
+/// Found and, where document 01 gives it, count of a rule on a word.
+fn judged(judge: Judge, rule: &str, word: &str) -> (u64, u64) {
+    let mut table = empty_table(word.len());
+    let answer = judge(rule.as_bytes(), word.as_bytes(), &mut table);
+    (answer.found, answer.count)
+}
+
+#[test]
+fn known_days_with_a_count() {
+    let days = [
+        ("1", "", 1, 2),
+        ("0", "a", 0, 2),
+        ("a", "", 0, 1),
+        ("!a", "a", 2, 7),
+        ("!0", "ab", 6, 12),
+        ("a*", "aa", 6, 18),
+        ("a&a", "a", 1, 9),
+        ("1*", "", 1, 4),
+    ];
+    for (name, judge) in JUDGES {
+        for (rule, word, found, count) in days {
+            let told = judged(judge, rule, word);
+            assert_eq!(told, (found, count), "{name}: {rule} on {word}");
+        }
+    }
+}
+
+#[test]
+fn known_days_without_a_count() {
+    let days = [
+        ("(a&ab)(bc|c)", "abc", 0),
+        ("a(bc|c)&ab(bc|c)", "abc", 1),
+        ("!ab", "ab", 1),
+        ("!(ab)", "ab", 5),
+        ("!a*", "aa", 0),
+    ];
+    for (name, judge) in JUDGES {
+        for (rule, word, found) in days {
+            let told = judged(judge, rule, word);
+            assert_eq!(told.0, found, "{name}: {rule} on {word}");
+        }
+    }
+}
+
+#[test]
+fn edges_of_a_row() {
+    let all = flip_between(&NO_BITS, 0, 255);
+    assert_eq!(all, [u64::MAX; 4]);
+    assert_eq!(flip_between(&all, 0, 255), NO_BITS);
+    assert_eq!(flip_between(&NO_BITS, 64, 64), [0, 1, 0, 0]);
+    assert_eq!(flip_between(&NO_BITS, 63, 64), [1 << 63, 1, 0, 0]);
+    assert_eq!(next_bit(&all, 255), Some(255));
+    assert_eq!(next_bit(&[1, 0, 0, 1 << 63], 1), Some(255));
+    assert_eq!(next_bit(&[1, 0, 0, 0], 1), None);
+}
+
+#[test]
+fn the_whole_case() {
+    for (name, judge) in JUDGES {
+        let listing = job::run(judge, b"R\t!a\nE\t0\ta\n");
+        let whole = b"H\t1\t2\t1\t2\t7\nS\t0\t0\nS\t1\t1\n";
+        assert_eq!(listing, whole, "{name}");
+    }
+}
+
+#[test]
+fn rules_are_within_the_limits() {
+    for (name, judge) in JUDGES {
+        for rule in rules() {
+            let answer = judge(rule.text.as_bytes(), b"", &mut empty_table(0));
+            let within = rule.text.len() <= 255 && answer.m <= 64 && answer.k <= 7;
+            assert!(within, "{name}: {}", rule.name);
+        }
+    }
+}

@@ -1,0 +1,51 @@
+// All that is reached at one number: free moves, and special nodes whose block has the span of no event.
+use crate::exits::add_row;
+use crate::free::lead_if;
+use crate::memo::known;
+use crate::sets::first_missing;
+use crate::sets::intersect;
+use crate::sets::put_state;
+ghost use mathlib.Core.Path.{_≡_};
+ghost use Prim.Native.Nat.{_<_};
+ghost use lib.ListN.{length};
+ghost use Rattle.walk.specs.Automaton.{Room, Reflexive, Transitive, Entries, Remembered};
+ghost use Rattle.walk.specs.Levels.{Saturated};
+
+// The states that are reached at number j from those of todo; the exits of the special nodes entered there are to come.
+pub fn saturate(
+    closed: &[u64],
+    specials: &[u64],
+    rows: &[usize],
+    table: &[u64],
+    todo: &[u64],
+    memo: &mut [u64],
+    exits: &mut [u64],
+    j: usize,
+) -> [u64; 2]
+    requires { ⌜ (length (now closed) ≡ 256) × (length (now specials) ≡ 2) × (length (now rows) ≡ 64) ⌝ }
+    requires { ⌜ (length (now todo) ≡ 2) × (length (now exits) ≡ 256) × (j < 256) ⌝ }
+    requires { ⌜ Reflexive (now closed) ⌝ }
+    requires { ⌜ Transitive (now closed) ⌝ }
+    requires { ⌜ Entries (now specials) ⌝ }
+    requires { ⌜ Room (now rows) j (length (now table)) ⌝ }
+    requires { ⌜ Remembered (now closed) (now memo) ⌝ }
+    ensures states { λ r. ⌜ Saturated
+        (now (closed .entry)) (now (specials .entry)) (now (rows .entry)) (now (table .entry)) j
+        (now (todo .entry)) (now (exits .entry)) r (now (exits .exit)) ⌝ }
+    ensures memo { λ _. ⌜ Remembered (now (closed .entry)) (now (memo .exit)) ⌝ }
+{
+    let mut entered = [0u64; 2];
+    let mut set = known(closed, todo, memo, j);
+    loop {
+        let inner = intersect(&set, specials);
+        let s = first_missing(&inner, &entered);
+        if s == 128 {
+            return set;
+        }
+        // Each special node is entered once; where its block has the span of no event, its exit is reached at once.
+        put_state(&mut entered, s);
+        let r = rows[s / 2] + j;
+        add_row(table, exits, r, s / 2);
+        lead_if(table, 256 * r + j, closed, s + 1, &mut set);
+    }
+}
