@@ -3,7 +3,7 @@ use mathlib.Core.Path.{_≡_, refl, sym, ap, _∙_}
 use mathlib.Core.Bool.{Bool, true, false, _||_, false≢true, or-false, or-true}
 use mathlib.Core.Logic.{_⊎_, inl, inr, ⊎-elim}
 use mathlib.Core.List.{List, [], _∷_, _++_}
-use Prim.Native.Nat.{ℕ, zero, suc, _+_, _/_, _%_, _^_, _<_}
+use Prim.Native.Nat.{ℕ, zero, suc, _+_, _*_, _/_, _%_, _^_, _<_}
 use native.Mathlib.Omega.{arith}
 use native.Mathlib.Numerals.{add-one}
 use lib.Count.{ones}
@@ -44,6 +44,13 @@ merged-put {a} {b} p m = record {
       (same-or-not (q / 64) (p / 64));
   long = m .long;
 }
+
+-- bit 64 * w + b, put into number w
+pub put-at : {a c : List ℕ} (w b p x : ℕ) → b < 64 → p ≡ 64 * w + b → x ≡ 2 ^ b → Merged a w x c → Put a p c
+put-at {a} {c} w b p x l e f m =
+    let y : p / 64 ≡ w = omega arith in
+    let z : p % 64 ≡ b = omega arith in
+    merged-put p (rw (y, z, ← f) m)
 
 -- ---- bits that are added
 

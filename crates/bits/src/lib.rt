@@ -48,6 +48,18 @@ pub fn put(a: &mut [u64], p: usize)
     merge(a, p / 64, one(p % 64));
 }
 
+// Sets bit p of a run of two numbers, and no other; each is reached by a constant, which keeps the two out of memory.
+pub fn put_in_two(a: &mut [u64], p: usize)
+    requires { ⌜ (length (now a) ≡ 2) × (p < 128) ⌝ }
+    ensures { λ _. ⌜ Put (now (a .entry)) p (now (a .exit)) ⌝ }
+{
+    if p < 64 {
+        merge(a, 0, one(p));
+        return;
+    }
+    merge(a, 1, one(p - 64));
+}
+
 // The lowest bit that x has and y lacks; 64 where there is none.
 pub fn first(x: u64, y: u64) -> usize
     ensures { λ r. ⌜ First x y r ⌝ }

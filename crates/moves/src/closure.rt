@@ -35,7 +35,7 @@ fn settle(c: &[u64], s: usize, k: usize, done: &mut [u64])
     requires { ⌜ (length (now c) ≡ 256) × (length (now done) ≡ 2) × (k < 128) ⌝ }
     ensures { λ _. ⌜ Adds (now (done .entry)) (Settled (now (c .entry)) s k) (now (done .exit)) ⌝ }
 {
-    bits::put(done, k);
+    bits::put_in_two(done, k);
     if s <= k {
         return;
     }

@@ -8,7 +8,7 @@ pub settle-spec : {M : Type 1} → statement M
 settle-spec =
     tie.close (tie.spec (λ c κs. search needs) (λ c. search needs)
     -- returns
-    (λ c. settled-late (c .if1 .taken) (c .before .before .before .put .ensures .1))
+    (λ c. settled-late (c .if1 .taken) (c .before .before .before .put-in-two .ensures))
     (λ c. search needs) (λ c. search needs) (λ c. search needs) (λ c κs. search needs)
     (λ c. search needs) (λ c. search needs) (λ c. search needs) (λ c. search needs)
     (λ c κs. search needs) (λ c. search needs)
@@ -18,4 +18,4 @@ settle-spec =
     let first = second .before .before .before .before .before in
     let left = first .before .before .before in
     let put = left .before .before .before in
-    settled-early _ (left .if1 .left) (put .put .ensures .1) (first .merge .ensures .1) (second .merge2 .ensures .1)))
+    settled-early _ (left .if1 .left) (put .put-in-two .ensures) (first .merge .ensures .1) (second .merge2 .ensures .1)))
