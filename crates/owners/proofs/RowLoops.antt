@@ -1,5 +1,5 @@
 -- The first rows of the blocks, found one after the other. Assumes nothing.
-use mathlib.Core.Path.{_≡_, refl, ap, _∙_}
+use mathlib.Core.Path.{_≡_, refl, sym, ap, _∙_, subst}
 use mathlib.Core.Bool.{true, false, _&&_}
 use mathlib.Core.Logic.{⊎-elim}
 use mathlib.Core.List.{List}
@@ -82,6 +82,22 @@ placing-on {nodes} {m} {n} {i} {v} {rows} g l h e =
           (λ (d : y ≡ i → ⊥). getD-set-other rows i y v 0 d ∙ g .some y (omega arith)) (same-or-not y i);
       none = λ y z. getD-set-other rows i y v 0 (λ (d : y ≡ i). omega arith) ∙ g .none y (omega arith);
     }
+
+-- a node without a block is passed over
+pub placing-past : {nodes : List Node} {m n i : ℕ} {rows : List ℕ} → Placing nodes m n rows i → i < m → 0 ≡ rowAt nodes m n i
+    → Placing nodes m n rows (i + 1)
+placing-past {nodes} {m} {n} {i} {rows} g h e =
+    record {
+      few = omega arith;
+      long = g .long;
+      some = λ y z. ⊎-elim (λ (d : y ≡ i). rw d (g .none i (omega arith) ∙ e))
+          (λ (d : y ≡ i → ⊥). g .some y (omega arith)) (same-or-not y i);
+      none = λ y z. g .none y (omega arith);
+    }
+
+-- the same by another name
+pub placing-same : {nodes : List Node} {m n i : ℕ} {rows b : List ℕ} → b ≡ rows → Placing nodes m n rows i → Placing nodes m n b i
+placing-same {nodes} {m} {n} {i} e g = subst (λ l. Placing nodes m n l i) (sym e) g
 
 pub placing-ends : {nodes : List Node} {m n i : ℕ} {rows : List ℕ} → Placing nodes m n rows i → m ≤ i → FirstRows nodes m n rows
 placing-ends g h = let f = g .few in record { some = λ y z. g .some y (omega arith); none = λ y z. g .none y (omega arith) }

@@ -234,6 +234,10 @@ module _ {t : Tree} {w : Word} {limit : ℕ} {a : List ℕ} where
           bounded = s .bounded;
         }
 
+    -- the same by other names
+    pub turning-same : {b : List ℕ} {c : ℕ} → b ≡ lent → c ≡ count → Turning t w limit a b c i
+    turning-same d e = rw (d, e) g
+
     pub turning-ends : size t ≤ i → SpecialsTurned t w limit lent count false
     turning-ends h =
         let e : i ≡ size t = omega (arith, g .few) in

@@ -4,11 +4,11 @@ use regex::Kind;
 use regex::Node;
 ghost use mathlib.Core.Path.{_≡_};
 ghost use mathlib.Core.Bool.{_&&_};
-ghost use Prim.Native.Nat.{_<_, _≤_};
+ghost use Prim.Native.Nat.{_≤_};
 ghost use lib.Dec.{ltb};
 ghost use Rattle.bits.specs.Bit.{indicator};
 ghost use Rattle.moves.specs.Moves.{specialKind};
-ghost use Rattle.owners.specs.Blocks.{specialsBefore, rowAt, FirstRows};
+ghost use Rattle.owners.specs.Blocks.{specialsBefore, FirstRows};
 
 // 1 for a special node with an offset below `limit`, 0 for any other.
 fn one_before(k: Kind, offset: usize, limit: usize) -> usize
@@ -39,20 +39,7 @@ fn specials_before(nodes: [Node; 64], m: usize, limit: usize) -> usize
     count
 }
 
-// The first row of node i's block, 0 for a node that has none.
-fn first_row(nodes: [Node; 64], m: usize, n: usize, i: usize) -> usize
-    requires { ⌜ (m ≤ 64) × (n ≤ 255) × (i < m) ⌝ }
-    ensures { λ r. ⌜ r ≡ rowAt nodes m n i ⌝ }
-{
-    let node = nodes[i];
-    let k = node.kind;
-    if is_special(k) {
-        return (1 + specials_before(nodes, m, node.offset)) * (n + 1);
-    }
-    0
-}
-
-// The first rows of all nodes' blocks.
+// The first rows of all nodes' blocks, 0 for a node that has none.
 pub fn first_rows(nodes: [Node; 64], m: usize, n: usize) -> [usize; 64]
     requires { ⌜ (m ≤ 64) × (n ≤ 255) ⌝ }
     ensures { λ r. ⌜ FirstRows nodes m n r ⌝ }
@@ -60,7 +47,11 @@ pub fn first_rows(nodes: [Node; 64], m: usize, n: usize) -> [usize; 64]
     let mut rows = [0usize; 64];
     let mut i = 0;
     while i < m {
-        rows[i] = first_row(nodes, m, n, i);
+        let node = nodes[i];
+        let k = node.kind;
+        if is_special(k) {
+            rows[i] = (1 + specials_before(nodes, m, node.offset)) * (n + 1);
+        }
         i += 1;
     }
     rows

@@ -2,6 +2,7 @@
 use regex::Kind;
 use regex::Node;
 ghost use mathlib.Core.Path.{_≡_};
+ghost use lib.ListN.{length};
 ghost use Rattle.owners.specs.Filling.{treeFrom, Recorded};
 ghost use Rattle.owners.specs.Sides.{sidesOf, SidesKnown, SidesFound, Lefts};
 
@@ -28,9 +29,9 @@ pub struct Extent {
 }
 
 // The extent of node i's part, from where those of the nodes before it begin.
-fn extent_of(firsts: [usize; 64], sides: usize, i: usize) -> Extent
-    requires { ⌜ SidesKnown firsts sides i ⌝ }
-    ensures { λ r. ⌜ SidesFound firsts sides i (r .first) (r .left) ⌝ }
+fn extent_of(firsts: &[usize], sides: usize, i: usize) -> Extent
+    requires { ⌜ (length (now firsts) ≡ 64) × SidesKnown (now firsts) sides i ⌝ }
+    ensures { λ r. ⌜ SidesFound (now (firsts .entry)) sides i (r .first) (r .left) ⌝ }
 {
     if sides == 1 {
         let f = firsts[i - 1];
@@ -61,7 +62,7 @@ pub fn left_sides(nodes: [Node; 64], m: usize) -> [usize; 64]
     while i < m {
         let node = nodes[i];
         let k = node.kind;
-        let e = extent_of(firsts, sides_of(k), i);
+        let e = extent_of(&firsts, sides_of(k), i);
         firsts[i] = e.first;
         lefts[i] = e.left;
         i += 1;

@@ -4,7 +4,9 @@ use regex::Kind;
 use regex::Node;
 use walk::Tally;
 ghost use mathlib.Core.Path.{_≡_};
+ghost use mathlib.Core.Bool.{true};
 ghost use Prim.Native.Nat.{_<_, _≤_};
+ghost use Rattle.moves.specs.Moves.{kindAt, specialKind};
 ghost use Rattle.owners.specs.Filling.{treeFrom};
 ghost use Rattle.owners.specs.Turns.{isComplement, BlocksBelow, Setting, Turned, SpecialsTurned, AllTurned};
 
@@ -24,7 +26,7 @@ fn is_complement(k: Kind) -> bool
     }
 }
 
-// Node i's turn: the walks that it owns, and its block, if it is special.
+// Special node i's turn: the walks that it owns, and its block.
 fn own(
     nodes: [Node; 64],
     m: usize,
@@ -42,35 +44,29 @@ fn own(
     requires { ⌜ Setting (treeFrom nodes m) nodes m
         (now lefts) (now closed) (now letters) (now specials) (now rows) (now word) (now table) ⌝ }
     requires { ⌜ BlocksBelow (now word) (now table) (treeFrom nodes m) i ⌝ }
-    requires { ⌜ (i < m) × (count ≤ limit) ⌝ }
+    requires { ⌜ (i < m) × (specialKind (kindAt nodes i) ≡ true) × (count ≤ limit) ⌝ }
     ensures { λ t. ⌜ Turned (treeFrom nodes m) (now (word .entry)) i count limit (now (table .exit)) (t .count) (t .spent) ⌝ }
 {
     let node = nodes[i];
     let k = node.kind;
-    if is_special(k) {
-        let flip = is_complement(k);
-        // The exits of its sides; the right one stands just before it, and the only side of a complement is both.
-        let x = 2 * lefts[i] + 1;
-        let y = 2 * i - 1;
-        return rows::fill_block(
-            closed,
-            letters,
-            specials,
-            rows,
-            word,
-            table,
-            rows[i],
-            x,
-            y,
-            flip,
-            count,
-            limit,
-        );
-    }
-    Tally {
-        count: count,
-        spent: false,
-    }
+    let flip = is_complement(k);
+    // The exits of its sides; the right one stands just before it, and the only side of a complement is both.
+    let x = 2 * lefts[i] + 1;
+    let y = 2 * i - 1;
+    rows::fill_block(
+        closed,
+        letters,
+        specials,
+        rows,
+        word,
+        table,
+        rows[i],
+        x,
+        y,
+        flip,
+        count,
+        limit,
+    )
 }
 
 // The turns of the special nodes, inner ones first.
@@ -93,24 +89,28 @@ fn fill_specials(
     let mut c: u64 = 0;
     let mut i = 0;
     while i < m {
-        let t = own(
-            nodes,
-            m,
-            lefts,
-            closed,
-            letters,
-            specials,
-            rows,
-            word,
-            table,
-            i,
-            c,
-            limit,
-        );
-        if t.spent {
-            return t;
+        let node = nodes[i];
+        let k = node.kind;
+        if is_special(k) {
+            let t = own(
+                nodes,
+                m,
+                lefts,
+                closed,
+                letters,
+                specials,
+                rows,
+                word,
+                table,
+                i,
+                c,
+                limit,
+            );
+            if t.spent {
+                return t;
+            }
+            c = t.count;
         }
-        c = t.count;
         i += 1;
     }
     Tally {

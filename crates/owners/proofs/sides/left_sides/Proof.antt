@@ -18,10 +18,13 @@ left-sides-spec =
     (λ c. siding-begins)
     (λ c. search needs)
     (λ c. search needs)
+    (λ c. search needs)
     (λ c κs. tt)
     (λ c κs.
-    let l = c .before .before .before in
-    siding-known (l .before .pre) (l .loop .inv) (c .before .before .loop-test .taken) (c .sides-of .ensures))
+    let l = c .before .before .before .before in (
+      l .loop .inv .long .0,
+      siding-known (l .before .pre) (l .loop .inv) (c .before .before .before .loop-test .taken) (c .sides-of .ensures),
+    ))
     (λ c. search needs)
     (λ c. search needs)
     (λ c. search needs)
@@ -29,7 +32,7 @@ left-sides-spec =
     (λ c. search needs)
     (λ c. search needs)
     (λ c.
-    let l = c .before .before .before .before in
-    siding-on (l .before .pre) (l .loop .inv) (c .before .before .before .loop-test .taken) (c .before .sides-of .ensures)
+    let l = c .before .before .before .before .before in
+    siding-on (l .before .pre) (l .loop .inv) (c .before .before .before .before .loop-test .taken) (c .before .sides-of .ensures)
     (c .extent-of .ensures))
     (λ c. siding-ends (c .before .before .pre) (c .before .loop .inv) (c .loop-test .left)))

@@ -13,33 +13,30 @@ own-spec =
     (λ c. search needs)
     (λ c. search needs)
     (λ c κs. tt)
-    (λ c κs. tt)
     (λ c. search needs)
     (λ c. search needs)
     (λ c.
-    let s = c .before .before .before .before .before .before .before .before .before .before .before .before in
+    let s = c .before .before .before .before .before .before .before .before .before .before in
     let z = own-low (s .pre .0) (s .args .i) (s .pre .1 .1 .0) in omega (arith, z .0, z .1))
     (λ c.
-    let s = c .before .before .before .before .before .before .before .before .before .before .before .before in
+    let s = c .before .before .before .before .before .before .before .before .before .before in
     let z = own-low (s .pre .0) (s .args .i) (s .pre .1 .1 .0) in omega (arith, z .0, z .1))
     (λ c. search needs)
     (λ c.
-    let k = c .before .before in
-    let s = k .before .before .before .before .before .before .before .before .before .before in
-    let y = own-past (s .pre .0) (s .args .i) (s .pre .1 .1 .0) (sym (k .before .is-special .ensures) ∙ k .if1 .taken) in omega (arith, y))
+    let s = c .before .before .before .before .before .before .before .before .before .before in
+    let y = own-past (s .pre .0) (s .args .i) (s .pre .1 .1 .0) (s .pre .1 .1 .1) in omega (arith, y))
     (λ c. search needs)
     (λ c. search needs)
     (λ c κs.
-    let k = c .before .before .before .before in
-    let s = k .before .before .before .before .before .before .before .before .before .before in
-    let e = sym (k .before .is-special .ensures) ∙ k .if1 .taken in
+    let s = c .before .before .before .before .before .before .before .before .before .before .before .before in
+    let e = s .pre .1 .1 .1 in
     let z = own-low (s .pre .0) (s .args .i) (s .pre .1 .1 .0) in
     let y = own-past (s .pre .0) (s .args .i) (s .pre .1 .1 .0) e in (
       ready (s .pre .0),
       (
         own-room (s .pre .0) (s .args .i) (s .pre .1 .1 .0),
         (
-          (omega arith, omega (arith, z .0, z .1), omega (arith, y), omega (arith, z .1), s .pre .1 .1 .1),
+          (omega arith, omega (arith, z .0, z .1), omega (arith, y), omega (arith, z .1), s .pre .1 .1 .2),
           own-apart (s .pre .0) (s .args .i) (s .pre .1 .1 .0) (s .pre .1 .0) e _ _ refl refl,
         ),
       ),
@@ -47,11 +44,7 @@ own-spec =
     (λ c. search needs)
     (λ c.
     let f = c .before .before in
-    let k = f .before .before .before .before .before in
-    let s = k .before .before .before .before .before .before .before .before .before .before in
-    own-turn (s .pre .0) (s .args .i) (s .pre .1 .1 .0) (s .pre .1 .0) (sym (k .before .is-special .ensures) ∙ k .if1 .taken)
-    (f .fill-block .ensures) (f .before .before .before .before .is-complement .ensures))
-    (λ c.
-    let s = c .before .before .before .before .before .before .before .before .before .before in
-    plain-turn (s .pre .0) (s .args .i) (s .pre .1 .1 .0) (s .pre .1 .0) (sym (c .before .is-special .ensures) ∙ c .if1 .left)
-    (s .pre .1 .1 .1)))
+    let k = f .before .before .before .before in
+    let s = k .before .before .before .before .before .before .before .before .before in
+    own-turn (s .pre .0) (s .args .i) (s .pre .1 .1 .0) (s .pre .1 .0) (s .pre .1 .1 .1) (f .fill-block .ensures)
+    (k .is-complement .ensures)))
