@@ -1,15 +1,17 @@
--- Exits to come: a row of the table added to them, and those that are due. Assumes nothing.
+-- Exits to come: a row of the table added to them, those that are due, and nodes that are left at every number. Assumes nothing.
 use mathlib.Core.Path.{_≡_, refl, sym, ap, _∙_}
 use mathlib.Core.Bool.{true, false≢true}
 use mathlib.Core.Logic.{inl, inr, ⊎-elim}
 use mathlib.Core.List.{List}
-use Prim.Native.Nat.{ℕ, _+_, _*_, _/_, _%_, _<_}
+use Prim.Native.Nat.{ℕ, _+_, _-_, _*_, _/_, _%_, _^_, _≤_, _<_}
 use native.Mathlib.Omega.{arith}
-use lib.ListN.{length, getD, replicate}
-use Rattle.bits.specs.Bit.{hasBit, bitAt, Put, Merged, Adds}
-use Rattle.bits.proofs.Digits.{same-or-not}
-use Rattle.bits.proofs.Laws.{put-adds, merged-adds, adds-none, adds-then, adds-as, zeros-bit}
-use Rattle.walk.specs.Levels.{Missing, RowExit, DueExit, PutIf}
+use lib.ListN.{length, getD}
+use lib.Bits.{bitOr}
+use borrow.Author.Tests.{ltb-true, lt-ltb}
+use Rattle.bits.specs.Bit.{hasBit, bitAt, Put, Merged, Adds, First}
+use Rattle.bits.proofs.Digits.{below-or-not, same-or-not, zero-has, has-or, mask-has}
+use Rattle.bits.proofs.Laws.{put-adds, merged-adds, adds-then, adds-as, or-cases}
+use Rattle.walk.specs.Levels.{Missing, Same, Among, PutIf, RowExit, DueExit, ExitOf, ExitsIn, LeftBelow, Filled, Full}
 use Rattle.moves.proofs.RowLaws.{word-bit}
 
 -- ---- a row of the table
@@ -64,7 +66,7 @@ module _ (table : List ℕ) (r i : ℕ) where
 -- what holds at each turn: of the open nodes' entries v those of d are done, and the states a are b now
 pub record Dues (x v : List ℕ) (j : ℕ) (d a b : List ℕ) : Type 0 where
   pub two : length d ≡ 2
-  pub inside : (s : ℕ) → bitAt d s ≡ true → bitAt v s ≡ true
+  pub inside : Among d v
   pub adds : Adds a (DueExit x d j) b
 
 -- an exit that is due of the entries d is one of those of e
@@ -72,16 +74,24 @@ due-of : {x d e : List ℕ} {j q : ℕ} (u : DueExit x d j q) → bitAt e (u .en
 due-of u k = record { entry = u .entry; exit = u .exit; small = u .small; known = k; bit = u .bit }
 
 module _ (x v : List ℕ) (j : ℕ) where
-  pub dues-start : (a : List ℕ) → Dues x v j (replicate 2 0) a a
-  dues-start a = record {
-    two = refl;
-    inside = λ s e. absurd (false≢true (sym (zeros-bit 2 s) ∙ e));
-    adds = adds-none a _ (λ q u. false≢true (sym (zeros-bit 2 (u .entry)) ∙ u .known));
+  -- the exits of full nodes are there
+  pub dues-start : (f : List ℕ) {a d : List ℕ} → Same f d → length d ≡ 2 → Among f v → ExitsIn f a → Dues x v j d a a
+  dues-start f {a} {d} same n inside there = record {
+    two = n;
+    inside = λ s l e. inside s l (sym (same s l) ∙ e);
+    adds = record {
+      old = λ q e. e;
+      new = λ q u.
+          ap (bitAt a) (u .exit) ∙ there (u .entry) (u .small) (sym (same (u .entry) (u .small)) ∙ u .known);
+      only = λ q e. inl e;
+      long = refl;
+    };
   }
 
   pub dues-done : {a b d : List ℕ} {s : ℕ} → Dues x v j d a b → Missing v d s → s ≡ 128 → Adds a (DueExit x v j) b
   dues-done g m e =
-      adds-as (λ q u. due-of u (g .inside (u .entry) (u .known))) (λ q u. due-of u (m .none e (u .entry) (u .small) (u .known))) (g .adds)
+      adds-as (λ q u. due-of u (g .inside (u .entry) (u .small) (u .known)))
+      (λ q u. due-of u (m .none e (u .entry) (u .small) (u .known))) (g .adds)
 
   pub dues-turn : {a b c d e : List ℕ} {s : ℕ} → Dues x v j d a b → Missing v d s → (s ≡ 128 → ⊥) → Put d s e
       → Adds b (PutIf x (128 * s + j) (s + 1)) c → Dues x v j e a c
@@ -90,7 +100,7 @@ module _ (x v : List ℕ) (j : ℕ) where
       let l : s < 128 = omega arith in
       record {
         two = p .long ∙ g .two;
-        inside = λ r i. ⊎-elim (λ (y : bitAt d r ≡ true). g .inside r y) (λ (y : r ≡ s). rw y (m .there l)) (put-adds p .only r i);
+        inside = λ r k i. ⊎-elim (λ (y : bitAt d r ≡ true). g .inside r k y) (λ (y : r ≡ s). rw y (m .there l)) (put-adds p .only r i);
         adds = adds-as
             (λ q u.
             ⊎-elim (λ (y : DueExit x d j q). due-of y (put-adds p .old (y .entry) (y .known)))
@@ -101,3 +111,79 @@ module _ (x v : List ℕ) (j : ℕ) where
             (put-adds p .only (u .entry) (u .known)))
             (adds-then (g .adds) h);
       }
+
+-- the exits of the full nodes f and those that are due are those that are due
+pub due-law : {x v f a b c : List ℕ} (j n : ℕ) → j ≤ n → Full x v f j n → Adds a (ExitOf f) b → Adds b (DueExit x v j) c
+    → Adds a (DueExit x v j) c
+due-law {x} {v} {f} j n l u g h =
+    adds-as
+    (λ q d.
+    ⊎-elim
+    (λ (z : ExitOf f q).
+    let k = z .small in
+    record {
+      entry = z .entry;
+      exit = z .exit;
+      small = k;
+      known = u .known (z .entry) k (z .there);
+      bit = u .left (z .entry) k (z .there) j (omega arith) l;
+    })
+    (λ (z : DueExit x v j q). z) d)
+    (λ q d. inr d)
+    (adds-then g h)
+
+pub exits-in : {f a b : List ℕ} → Adds a (ExitOf f) b → ExitsIn f b
+exits-in g s l d = g .new (s + 1) record { entry = s; exit = refl; small = l; there = d }
+
+-- ---- nodes that are left at every number
+
+all-has : (b : ℕ) → b < 64 → hasBit b 18446744073709551615 ≡ true
+all-has b l = mask-has b 64 ∙ lt-ltb b 64 l
+
+-- what holds at each turn, over number w of node i's row: it is left at every number from k on that comes before, and those that pass for
+-- set come before k
+pub record Gapless (x : List ℕ) (i k below w : ℕ) : Type 0 where
+  pub left : LeftBelow x i k (64 * w)
+  pub passed : (b : ℕ) → hasBit b below ≡ true → 64 * w + b < k
+
+module _ (x : List ℕ) (i k : ℕ) where
+  pub gap-start : (below : ℕ) → below ≡ 2 ^ (k % 64) - 1 → Gapless x i k below (k / 64)
+  gap-start below e = record {
+    left = λ m l h. absurd (omega arith);
+    passed = λ b d.
+        let l = ltb-true b (k % 64) (sym (ap (hasBit b) e ∙ mask-has b (k % 64)) ∙ d) in omega arith;
+  }
+
+  module _ {below w r : ℕ} (g : Gapless x i k below w) (f : First 18446744073709551615 (bitOr (getD x (4 * i + w) 0) below) r) where
+    pub gap-law : LeftBelow x i k (64 * w + r)
+    gap-law m l h =
+        let n = f .within in
+        ⊎-elim (λ (z : m < 64 * w). g .left m l z)
+        (λ (z : 64 * w ≤ m).
+        let b = m - 64 * w in
+        let e : 256 * i + m ≡ 64 * (4 * i + w) + b = omega arith in
+        ap (bitAt x) e ∙ word-bit x (4 * i + w) b (omega arith)
+        ∙ ⊎-elim (λ (y : hasBit b (getD x (4 * i + w) 0) ≡ true). y)
+        (λ (y : hasBit b below ≡ true). let p = g .passed b y in absurd (omega arith))
+        (or-cases (hasBit b (getD x (4 * i + w) 0)) (hasBit b below)
+        (sym (has-or b (getD x (4 * i + w) 0) below) ∙ f .below b (omega arith) (all-has b (omega arith)))))
+        (below-or-not m (64 * w))
+
+    pub gap-turn : 64 ≤ r → Gapless x i k 0 (w + 1)
+    gap-turn l = record {
+      left = λ m n h. gap-law m n (omega arith);
+      passed = λ b d. absurd (false≢true (sym (zero-has b) ∙ d));
+    }
+
+pub filled-none : (x : List ℕ) (s k n : ℕ) (f : List ℕ) → Filled x s k n f f
+filled-none x s k n f = record { only = λ t _ d. inl d; long = refl }
+
+pub filled-law : {x f g : List ℕ} (s k n r : ℕ) → s % 2 ≡ 0 → LeftBelow x (s / 2) k r → n < r → Put f s g → Filled x s k n f g
+filled-law {x} {f} s k n r e left l p = record {
+  only = λ t _ d.
+      ⊎-elim (λ (z : bitAt f t ≡ true). inl z)
+      (λ (z : t ≡ s).
+      inr (z, λ m i h. let q : 128 * s + m ≡ 256 * (s / 2) + m = omega arith in ap (bitAt x) q ∙ left m i (omega arith)))
+      (put-adds p .only t d);
+  long = p .long;
+}

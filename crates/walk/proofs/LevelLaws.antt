@@ -9,13 +9,12 @@ use lib.ListN.{length, getD}
 use lib.Bits.{bitOr}
 use Rattle.bits.specs.Bit.{bitAt, tallyBelow, Adds}
 use Rattle.bits.proofs.Digits.{same-or-not}
-use Rattle.bits.proofs.Laws.{adds-as}
 use Rattle.bits.proofs.Tally.{tally-same}
 use Rattle.moves.specs.Reached.{Reached, start, after}
 use Rattle.moves.specs.Moves.{FreeMove}
 use Rattle.walk.specs.Automaton.{Automaton, FreeStep, LetterStep, SpanStep, Step, Ready}
 use Rattle.walk.specs.Levels.{Common, StateOf, Among, StatesAt, PlaceOf, Bare, AtRest, DueExit, Pending, OfOpen, NextExit}
-use Rattle.walk.specs.Levels.{SpanHere, StepHere, SpanExit, Saturated, Passed, MarkedExit, Given, Levelled}
+use Rattle.walk.specs.Levels.{Full, SpanHere, StepHere, SpanExit, Joins, Saturated, FullAfter, Passed, MarkedExit, Given, Levelled}
 use Rattle.moves.proofs.RowLaws.{low-bit, high-bit, word-bit, by-half}
 use Rattle.walk.proofs.SetLaws.{same-bits, or-zero, no-bit}
 
@@ -84,11 +83,33 @@ known-entry {x} v q known u l =
     let c = coming-of q (u .odd) l in
     ap (bitAt v) (sym (c .entry)) ∙ known (c .place) (c .small) (ap (bitAt x) (c .is) ∙ u .bit)
 
+-- ---- exits that are joined
+
+joins-as : {j n : ℕ} {x y : List ℕ} {P Q : ℕ → Type 0} → ((q : ℕ) → P q → Q q) → ((q : ℕ) → Q q → P q) → Joins j n x P y → Joins j n x Q y
+joins-as {x = x} {P = P} to from f = record {
+  old = f .old;
+  new = λ q p. f .new q (from q p);
+  only = λ q e. ⊎-elim (λ (d : bitAt x q ≡ true). inl d) (λ (p : P q). inr (to q p)) (f .only q e);
+  long = f .long;
+}
+
+-- full nodes are open after the number, as those of the set are
+pub full-law : {specials f v e y g u inner : List ℕ} (j n : ℕ) → FullAfter specials f e y g j n → Among f v → Common e specials inner
+    → Adds v (StateOf inner) u → Full y u g (j + 1) n
+full-law {f = f} j n h k m o = record {
+  two = h .two;
+  known = λ s l d.
+      ⊎-elim (λ (z : bitAt f s ≡ true). o .old s (k s l z)) (λ z. o .new s record { small = l; there = m .both s l (z .0) (z .1) })
+      (h .only s l d);
+  left = h .left;
+}
+
 -- ---- a number
 
 module _ (t : Automaton) (ready : Ready t) (j : ℕ) (jn : j ≤ length (t .word)) (a x v : List ℕ) (known : OfOpen x v)
     (inside : Among v (t .specials)) {w todo e y b : List ℕ} (level : StatesAt a j w) (due : Adds w (DueExit x v j) todo)
-    (saturated : Saturated (t .closed) (t .specials) (t .rows) (t .table) j todo x e y) (marked : Adds a (PlaceOf e j) b) where
+    (saturated : Saturated (t .closed) (t .specials) (t .rows) (t .table) j (length (t .word)) todo x e y)
+    (marked : Adds a (PlaceOf e j) b) where
   -- a state of todo is marked, or its exit is due
   first : (s : ℕ) → s < 128 → bitAt todo s ≡ true → Reached (Given a x j) (Step t) (128 * j + s)
   first s l d =
@@ -188,8 +209,8 @@ module _ (t : Automaton) (ready : Ready t) (j : ℕ) (jn : j ≤ length (t .word
   tally-b : tallyBelow 128 (λ (s : ℕ). bitAt b (128 * j + s)) ≡ tallyBelow 128 (bitAt e)
   tally-b = tally-same 128 _ _ (λ s l. same-bits (bitAt b (128 * j + s)) (bitAt e s) (state-in s l) (from-set s l))
 
-  exits-b : Adds x (MarkedExit t b j) y
-  exits-b = adds-as
+  exits-b : Joins j (length (t .word)) x (MarkedExit t b j) y
+  exits-b = joins-as
       (λ q u.
       let i = u .small in
       record { small = i; entry = from-set (2 * (q / 256)) (omega arith) (u .entry); special = u .special; span = u .span })
@@ -253,8 +274,8 @@ module _ (t : Automaton) (ready : Ready t) (j : ℕ) (jn : j ≤ length (t .word
         same-bits (bitAt b′ (128 * j + s)) (bitAt b (128 * j + s)) (back (128 * j + s) (omega arith)) (read .old (128 * j + s)))
         ∙ tally-b
 
-    exits-b′ : Adds x (MarkedExit t b′ j) y
-    exits-b′ = adds-as
+    exits-b′ : Joins j (length (t .word)) x (MarkedExit t b′ j) y
+    exits-b′ = joins-as
         (λ q u. record { small = u .small; entry = read .old (128 * j + 2 * (q / 256)) (u .entry); special = u .special; span = u .span })
         (λ q u.
         let i = u .small in
@@ -275,6 +296,7 @@ module _ (t : Automaton) (ready : Ready t) (j : ℕ) (jn : j ≤ length (t .word
         let c = coming-of q od (omega arith) in
         let m : q % 128 - 1 ≡ p % 128 = omega arith in
         let i = c .entry ∙ m in
+        let nr = c .number in
         let k = c .node ∙ ap (λ (r : ℕ). r / 2) m in
         let u : SpanExit (t .specials) (t .rows) (t .table) j e (c .place) = record {
           small = c .small;
@@ -282,7 +304,8 @@ module _ (t : Automaton) (ready : Ready t) (j : ℕ) (jn : j ≤ length (t .word
           special = rw i (h .special);
           span = rw (k, c .number) (rw n at (h .span));
         } in
-        (omega arith, record { odd = od; bit = ap (bitAt y) (sym (c .is)) ∙ saturated .exits .new (c .place) u })
+        let there = saturated .exits .new (c .place) u (omega arith) (omega arith) in
+        (omega arith, record { odd = od; bit = ap (bitAt y) (sym (c .is)) ∙ there })
 
     closed-b : (p q : ℕ) → p / 128 ≡ j → bitAt b′ p ≡ true → Step t p q → (bitAt b′ q ≡ true) ⊎ ((j < q / 128) × Pending y q)
     closed-b p q n d g =
@@ -349,8 +372,8 @@ module _ (t : Automaton) (ready : Ready t) (j : ℕ) (jn : j ≤ length (t .word
 -- the set that is reached at number j from the marks and the exits that are due, passed on
 pub level-law : (t : Automaton) → Ready t → (j : ℕ) → j ≤ length (t .word) → (a x v : List ℕ) → OfOpen x v → Among v (t .specials)
     → {w todo e y b u inner : List ℕ} → StatesAt a j w → Adds w (DueExit x v j) todo
-    → Saturated (t .closed) (t .specials) (t .rows) (t .table) j todo x e y → Common e (t .specials) inner → Adds v (StateOf inner) u
-    → (count limit c : ℕ) (spent : Bool) → Passed (t .letters) (t .word) e j count limit a b c spent
+    → Saturated (t .closed) (t .specials) (t .rows) (t .table) j (length (t .word)) todo x e y → Common e (t .specials) inner
+    → Adds v (StateOf inner) u → (count limit c : ℕ) (spent : Bool) → Passed (t .letters) (t .word) e j count limit a b c spent
     → Levelled t j count limit a x v b y u c spent
 level-law t r j jn a x v known inside w d s m o count limit c true p =
     let z = p .stop refl in

@@ -11,7 +11,7 @@ use Rattle.bits.specs.Bit.{hasBit, bitAt, Put, Merged, Adds, First}
 use Rattle.bits.proofs.Digits.{zero-has, and-both, and-left, and-right}
 use Rattle.bits.proofs.Laws.{merged-put, put-adds, adds-as}
 use Rattle.moves.proofs.RowLaws.{word-bit, low-bit, high-bit, by-half, row-merged}
-use Rattle.walk.specs.Levels.{Missing, Common, Apart, StateOf, PutIf, StatesAt, PlaceOf}
+use Rattle.walk.specs.Levels.{Missing, Same, Common, Apart, StateOf, PutIf, StatesAt, PlaceOf}
 
 pub same-bits : (x y : Bool) → (x ≡ true → y ≡ true) → (y ≡ true → x ≡ true) → x ≡ y
 same-bits true true f g = refl
@@ -117,6 +117,9 @@ states-law a r j e f =
     (λ s l.
     let d : 128 * j + (64 + s) ≡ 64 * (2 * j + 1) + s = omega arith in
     high-bit r s l ∙ ap (hasBit s) f ∙ sym (ap (bitAt a) d ∙ word-bit a (2 * j + 1) s l))
+
+pub same-law : (a r : List ℕ) → getD r 0 0 ≡ getD a 0 0 → getD r 1 0 ≡ getD a 1 0 → Same a r
+same-law a r e f s l = let z : 128 * 0 + s ≡ s = omega arith in states-law a r 0 e f s l ∙ ap (bitAt a) z
 
 pub place-law : (e : List ℕ) {a b c : List ℕ} (j : ℕ) → Merged a (2 * j) (getD e 0 0) b → Merged b (2 * j + 1) (getD e 1 0) c
     → Adds a (PlaceOf e j) c

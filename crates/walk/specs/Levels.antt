@@ -20,6 +20,10 @@ pub record Missing (a b : List ℕ) (r : ℕ) : Type 0 where
   pub fresh : r < 128 → bitAt b r ≡ false
   pub none : r ≡ 128 → (s : ℕ) → s < 128 → bitAt a s ≡ true → bitAt b s ≡ true
 
+-- r has the states of a
+abbrev pub Same : (a r : List ℕ) → Type 0
+Same a r = (s : ℕ) → s < 128 → bitAt r s ≡ bitAt a s
+
 -- r has the states that a and b have
 pub record Common (a b r : List ℕ) : Type 0 where
   pub both : (s : ℕ) → s < 128 → bitAt a s ≡ true → bitAt b s ≡ true → bitAt r s ≡ true
@@ -125,6 +129,40 @@ pub record Pending (exits : List ℕ) (q : ℕ) : Type 0 where
 abbrev pub OfOpen : (exits opened : List ℕ) → Type 0
 OfOpen x v = (q : ℕ) → q < 16384 → bitAt x q ≡ true → bitAt v (2 * (q / 256)) ≡ true
 
+-- t is the exit of an entry of the set
+pub record ExitOf (set : List ℕ) (t : ℕ) : Type 0 where
+  pub entry : ℕ
+  pub exit : t ≡ entry + 1
+  pub small : entry < 128
+  pub there : bitAt set entry ≡ true
+
+-- the exits of the set's entries are in todo
+abbrev pub ExitsIn : (set todo : List ℕ) → Type 0
+ExitsIn f a = (s : ℕ) → s < 128 → bitAt f s ≡ true → bitAt a (s + 1) ≡ true
+
+-- node i is left at every number from k on that is below r
+abbrev pub LeftBelow : (exits : List ℕ) (i k r : ℕ) → Type 0
+LeftBelow x i k r = (m : ℕ) → k ≤ m → m < r → bitAt x (256 * i + m) ≡ true
+
+-- the node of the entry s is left at every number from k to n
+abbrev pub LeftAt : (exits : List ℕ) (s k n : ℕ) → Type 0
+LeftAt x s k n = (m : ℕ) → k ≤ m → m ≤ n → bitAt x (128 * s + m) ≡ true
+
+-- so are those of the set's entries
+abbrev pub LeftFrom : (exits set : List ℕ) (k n : ℕ) → Type 0
+LeftFrom x f k n = (s : ℕ) → s < 128 → bitAt f s ≡ true → LeftAt x s k n
+
+-- what g has and f has not is s, if its node is left at every number from k to n
+pub record Filled (exits : List ℕ) (s k n : ℕ) (f g : List ℕ) : Type 0 where
+  pub only : (t : ℕ) → t < 128 → bitAt g t ≡ true → (bitAt f t ≡ true) ⊎ ((t ≡ s) × LeftAt exits s k n)
+  pub long : length g ≡ length f
+
+-- the entries of full nodes before number j: open nodes that are left at every number from there on
+pub record Full (exits opened full : List ℕ) (j n : ℕ) : Type 0 where
+  pub two : length full ≡ 2
+  pub known : Among full opened
+  pub left : LeftFrom exits full j n
+
 -- ---- events
 
 -- r is x moved up by one bit
@@ -164,13 +202,26 @@ pub record SpanExit (specials rows table : List ℕ) (j : ℕ) (e : List ℕ) (q
   pub special : bitAt specials (2 * (q / 256)) ≡ true
   pub span : bitAt table (256 * (getD rows (q / 256) 0 + j) + q % 256) ≡ true
 
+-- y is x with bits of P, all those that stand at numbers from j to n
+pub record Joins (j n : ℕ) (x : List ℕ) (P : ℕ → Type 0) (y : List ℕ) : Type 0 where
+  pub old : (q : ℕ) → bitAt x q ≡ true → bitAt y q ≡ true
+  pub new : (q : ℕ) → P q → j ≤ q % 256 → q % 256 ≤ n → bitAt y q ≡ true
+  pub only : (q : ℕ) → bitAt y q ≡ true → (bitAt x q ≡ true) ⊎ P q
+  pub long : length y ≡ length x
+
 -- e has the states that are reached at number j from those of a, and y is x with the exits to come of the special nodes entered
-pub record Saturated (c specials rows table : List ℕ) (j : ℕ) (a x e y : List ℕ) : Type 0 where
+pub record Saturated (c specials rows table : List ℕ) (j n : ℕ) (a x e y : List ℕ) : Type 0 where
   pub all : Among a e
   pub only : (s : ℕ) → s < 128 → bitAt e s ≡ true → Reached (StateOf a) (StepHere c specials rows table j) s
   pub free : (s t : ℕ) → FreeMove c s t → bitAt e s ≡ true → bitAt e t ≡ true
   pub here : (s t : ℕ) → SpanHere specials rows table j s t → bitAt e s ≡ true → bitAt e t ≡ true
-  pub exits : Adds x (SpanExit specials rows table j e) y
+  pub exits : Joins j n x (SpanExit specials rows table j e) y
+
+-- after number j the full nodes' entries are g: some of those before, which are f, and of the special entries in the set e
+pub record FullAfter (specials f e y g : List ℕ) (j n : ℕ) : Type 0 where
+  pub two : length g ≡ 2
+  pub only : (s : ℕ) → s < 128 → bitAt g s ≡ true → (bitAt f s ≡ true) ⊎ ((bitAt e s ≡ true) × (bitAt specials s ≡ true))
+  pub left : LeftFrom y g (j + 1) n
 
 -- ---- one number of a walk
 
@@ -211,7 +262,7 @@ pub record Levelled (t : Automaton) (j count limit : ℕ) (a x v b y u : List �
   pub only : (q : ℕ) → bitAt b q ≡ true → Reached (Given a x j) (Step t) q
   pub above : (q : ℕ) → bitAt b q ≡ true → (bitAt a q ≡ true) ⊎ ((q / 128 ≤ j) ⊎ ((spent ≡ false) × (q / 128 ≤ j + 1)))
   pub waiting : (p : ℕ) → p / 128 ≡ j → Pending x p → bitAt b p ≡ true
-  pub exits : Adds x (MarkedExit t b j) y
+  pub exits : Joins j (length (t .word)) x (MarkedExit t b j) y
   pub stays : (p q : ℕ) → p / 128 ≡ j → q / 128 ≡ j → bitAt b p ≡ true → Step t p q → bitAt b q ≡ true
   pub closed : spent ≡ false → (p q : ℕ) → p / 128 ≡ j → bitAt b p ≡ true → Step t p q → (bitAt b q ≡ true) ⊎ ((j < q / 128) × Pending y q)
   pub known : spent ≡ false → OfOpen y u

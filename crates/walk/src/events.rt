@@ -14,7 +14,7 @@ fn wide(x: u8) -> usize
 }
 
 // Moves each bit up by one.
-fn move_up(x: u64) -> u64
+pub fn move_up(x: u64) -> u64
     requires { ⌜ hasBit 63 x ≡ false ⌝ }
     ensures { λ r. ⌜ MovedUp x r ⌝ }
 {

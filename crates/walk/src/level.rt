@@ -2,6 +2,7 @@
 use crate::Tally;
 use crate::events::read_next;
 use crate::exits::add_due;
+use crate::exits::add_exits;
 use crate::places::mark;
 use crate::places::states_at;
 use crate::saturation::saturate;
@@ -14,7 +15,7 @@ ghost use Prim.Native.Nat.{ℕ, _+_, _*_, _%_, _≤_, _<_};
 ghost use lib.ListN.{length};
 ghost use Rattle.bits.specs.Bit.{bitAt};
 ghost use Rattle.walk.specs.Automaton.{automaton, Ready, Remembered};
-ghost use Rattle.walk.specs.Levels.{OfOpen, Among, Passed, Levelled};
+ghost use Rattle.walk.specs.Levels.{OfOpen, Among, Full, Passed, Levelled};
 
 // Marks and counts the states of the set at number j, and reads the next event, unless the limit is passed.
 pub fn pass(
@@ -60,6 +61,7 @@ pub fn level(
     memo: &mut [u64],
     exits: &mut [u64],
     opened: &mut [u64],
+    full: &mut [u64],
     j: usize,
     count: u64,
     limit: u64,
@@ -69,6 +71,7 @@ pub fn level(
     requires { ⌜ (j ≤ length (now word)) × (count ≤ limit) ⌝ }
     requires { ⌜ OfOpen (now exits) (now opened) ⌝ }
     requires { ⌜ Among (now opened) (now specials) ⌝ }
+    requires { ⌜ Full (now exits) (now opened) (now full) j (length (now word)) ⌝ }
     requires { ⌜ Remembered (now closed) (now memo) ⌝ }
     ensures levelled { λ r. ⌜ Levelled
         (automaton
@@ -78,11 +81,24 @@ pub fn level(
         (now (marks .entry)) (now (exits .entry)) (now (opened .entry))
         (now (marks .exit)) (now (exits .exit)) (now (opened .exit))
         (r .count) (r .spent) ⌝ }
+    ensures full { λ _. ⌜ Full (now (exits .exit)) (now (opened .exit)) (now (full .exit)) (j + 1) (length (now (word .entry))) ⌝ }
     ensures memo { λ _. ⌜ Remembered (now (closed .entry)) (now (memo .exit)) ⌝ }
 {
     let mut todo = states_at(marks, j);
-    add_due(exits, opened, &mut todo, j);
-    let set = saturate(closed, specials, rows, table, &todo, memo, exits, j);
+    add_exits(full, &mut todo);
+    add_due(exits, opened, full, &mut todo, j);
+    let set = saturate(
+        closed,
+        specials,
+        rows,
+        table,
+        &todo,
+        memo,
+        exits,
+        full,
+        j,
+        word.len(),
+    );
     let inner = intersect(&set, specials);
     unite(opened, &inner);
     pass(letters, word, marks, &set, j, count, limit)

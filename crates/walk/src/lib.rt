@@ -138,6 +138,7 @@ fn walk_on(
 {
     let mut exits = [0u64; 256];
     let mut opened = [0u64; 2];
+    let mut full = [0u64; 2];
     let mut c = count;
     let mut j = i;
     while j <= word.len() {
@@ -159,6 +160,7 @@ fn walk_on(
             memo,
             &mut exits,
             &mut opened,
+            &mut full,
             j,
             c,
             limit,

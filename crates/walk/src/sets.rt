@@ -4,7 +4,7 @@ ghost use mathlib.Core.Bool.{false};
 ghost use Prim.Native.Nat.{ℕ, _*_, _≤_, _<_};
 ghost use lib.ListN.{length};
 ghost use Rattle.bits.specs.Bit.{hasBit, bitAt, tallyBelow, Put, Adds};
-ghost use Rattle.walk.specs.Levels.{Missing, Common, Apart, StateOf, PutIf};
+ghost use Rattle.walk.specs.Levels.{Missing, Same, Common, Apart, StateOf, PutIf};
 
 // A state of a that b lacks; 128 where there is none.
 pub fn first_missing(a: &[u64], b: &[u64]) -> usize
@@ -16,6 +16,17 @@ pub fn first_missing(a: &[u64], b: &[u64]) -> usize
         return x;
     }
     64 + bits::first(a[1], b[1])
+}
+
+// The same states.
+pub fn copy(a: &[u64]) -> [u64; 2]
+    requires { ⌜ length (now a) ≡ 2 ⌝ }
+    ensures { λ r. ⌜ Same (now (a .entry)) r ⌝ }
+{
+    let mut r = [0u64; 2];
+    r[0] = a[0];
+    r[1] = a[1];
+    r
 }
 
 // The states that both sets have.

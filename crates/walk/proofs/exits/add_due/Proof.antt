@@ -11,16 +11,20 @@ use Rattle.walk.proofs.exits.add_due.Statement.{statement}
 use Rattle.walk.proofs.exits.add_due.Tie as tie
 
 abbrev Inv-loop : tie.InvT-loop
-Inv-loop exits opened todo₀ j done₀ todo done = (length todo ≡ 2) × Dues exits opened j done todo₀ todo
+Inv-loop exits opened full todo₀ j done₀ todo done = (length todo ≡ 2) × Dues exits opened j done todo₀ todo
 
 abbrev μ-loop : tie.MeasureT-loop
-μ-loop exits opened todo₀ j done₀ todo done = 128 - tallyBelow 128 (bitAt done)
+μ-loop exits opened full todo₀ j done₀ todo done = 128 - tallyBelow 128 (bitAt done)
 
 pub add-due-spec : {M : Type 1} → statement M
 add-due-spec =
     tie.close (tie.spec Inv-loop μ-loop
+    (λ c κs. search needs)
     -- loop-holds
-    (λ c. (search needs, dues-start _ _ _ _))
+    (λ c.
+    let p = c .before .before .before .before .before .pre in
+    let q = p .1 .1 .1 in
+    (search needs, dues-start _ _ _ _ (c .copy .ensures) (search needs) (q .0) (q .1)))
     (λ c. search needs) (λ c κs. search needs) (λ c. search needs)
     -- returns
     (λ c. let i = c .before .before .before .loop .inv in dues-done _ _ _ (i .1) (c .before .first-missing .ensures) (c .if1 .taken))
@@ -34,7 +38,7 @@ add-due-spec =
     let f = m .first-missing in
     let w = f .ensures .within in
     let l : f .result < 128 = omega arith in
-    let e = m .before .before .before .before .before .before .pre .1 (f .result) l (f .ensures .there l) in
+    let e = m .before .before .before .before .before .before .before .before .pre .1 .0 (f .result) l (f .ensures .there l) in
     omega arith)
     -- loop-less
     (λ c.
