@@ -3,13 +3,13 @@ use mathlib.Core.Path.{_≡_, refl, sym, ap, _∙_, subst}
 use mathlib.Core.Bool.{Bool, true, false, false≢true}
 use mathlib.Core.Logic.{_⊎_, inl, inr}
 use mathlib.Core.List.{List}
-use Prim.Native.Nat.{ℕ, _+_, _-_, _*_, _/_, _%_, _^_, _≤_, _<_}
+use Prim.Native.Nat.{ℕ, _+_, _-_, _*_, _%_, _≤_, _<_}
 use native.Mathlib.Omega.{arith}
 use lib.ListN.{getD}
 use lib.Bits.{bitAnd, bitOr, or-add-and, and-le-l, and-le-r}
 use Rattle.bits.specs.Bit.{hasBit, bitAt, Put, Merged, Adds, First}
 use Rattle.bits.proofs.Digits.{zero-has, and-both, and-left, and-right}
-use Rattle.bits.proofs.Laws.{merged-put, put-adds, adds-as}
+use Rattle.bits.proofs.Laws.{put-adds, adds-as}
 use Rattle.moves.proofs.RowLaws.{word-bit, low-bit, high-bit, by-half, row-merged}
 use Rattle.walk.specs.Levels.{Missing, Same, Common, Apart, StateOf, PutIf, StatesAt, PlaceOf}
 
@@ -95,13 +95,6 @@ apart-law a b e =
     each h (inr i) = rw i (or-zero (bitAnd (getD a 0 0) (getD b 0 0)) (bitAnd (getD a 1 0) (getD b 1 0)) e .1)
 
 -- ---- a bit that is put, or not
-
--- the state w * 64 + b, put into number w
-pub put-law : {a c : List ℕ} (w b q x : ℕ) → b < 64 → q ≡ 64 * w + b → x ≡ 2 ^ b → Merged a w x c → Put a q c
-put-law {a} {c} w b q x l e f m =
-    let y : q / 64 ≡ w = omega arith in
-    let z : q % 64 ≡ b = omega arith in
-    merged-put q (rw (y, z, ← f) m)
 
 pub put-if-put : (a : List ℕ) (p : ℕ) {b c : List ℕ} {q : ℕ} → bitAt a p ≡ true → Put b q c → Adds b (PutIf a p q) c
 put-if-put a p e h = adds-as (λ t i. (i, e)) (λ t i. i .0) (put-adds h)

@@ -3,7 +3,6 @@ use crate::events::move_up;
 use crate::sets::copy;
 use crate::sets::first_missing;
 use crate::sets::put_if;
-use crate::sets::put_state;
 ghost use mathlib.Core.Path.{_≡_};
 ghost use Prim.Native.Nat.{_+_, _*_, _%_, _<_, _≤_};
 ghost use lib.ListN.{length};
@@ -47,7 +46,7 @@ pub fn add_due(exits: &[u64], opened: &[u64], full: &[u64], todo: &mut [u64], j:
         if s == 128 {
             return;
         }
-        put_state(&mut done, s);
+        bits::put_in_two(&mut done, s);
         put_if(exits, 128 * s + j, todo, s + 1);
     }
 }
@@ -78,6 +77,6 @@ pub fn put_full(exits: &[u64], full: &mut [u64], s: usize, k: usize, n: usize)
     ensures { λ _. ⌜ Filled (now (exits .entry)) s k n (now (full .entry)) (now (full .exit)) ⌝ }
 {
     if n < gap(exits, s / 2, k) {
-        put_state(full, s);
+        bits::put_in_two(full, s);
     }
 }

@@ -6,7 +6,6 @@ use crate::memo::known;
 use crate::sets::copy;
 use crate::sets::first_missing;
 use crate::sets::intersect;
-use crate::sets::put_state;
 ghost use mathlib.Core.Path.{_≡_};
 ghost use Prim.Native.Nat.{_<_, _≤_};
 ghost use lib.ListN.{length};
@@ -51,7 +50,7 @@ pub fn saturate(
             return set;
         }
         // Each special node is entered once; where its block has the span of no event, its exit is reached at once.
-        put_state(&mut entered, s);
+        bits::put_in_two(&mut entered, s);
         let r = rows[s / 2] + j;
         add_row(table, exits, r, s / 2);
         put_full(exits, full, s, j + 1, n);

@@ -3,7 +3,7 @@ ghost use mathlib.Core.Path.{_≡_};
 ghost use mathlib.Core.Bool.{false};
 ghost use Prim.Native.Nat.{ℕ, _*_, _≤_, _<_};
 ghost use lib.ListN.{length};
-ghost use Rattle.bits.specs.Bit.{hasBit, bitAt, tallyBelow, Put, Adds};
+ghost use Rattle.bits.specs.Bit.{hasBit, bitAt, tallyBelow, Adds};
 ghost use Rattle.walk.specs.Levels.{Missing, Same, Common, Apart, StateOf, PutIf};
 
 // A state of a that b lacks; 128 where there is none.
@@ -57,25 +57,13 @@ pub fn unite(a: &mut [u64], b: &[u64])
     bits::merge(a, 1, b[1]);
 }
 
-// Adds the state q; the set's numbers are reached by constants, which keeps a set out of memory.
-pub fn put_state(set: &mut [u64], q: usize)
-    requires { ⌜ (length (now set) ≡ 2) × (q < 128) ⌝ }
-    ensures { λ _. ⌜ Put (now (set .entry)) q (now (set .exit)) ⌝ }
-{
-    if q < 64 {
-        bits::merge(set, 0, bits::one(q));
-        return;
-    }
-    bits::merge(set, 1, bits::one(q - 64));
-}
-
 // Adds the state q, if bit p of the run is set.
 pub fn put_if(a: &[u64], p: usize, set: &mut [u64], q: usize)
     requires { ⌜ (p < 64 * length (now a)) × (length (now set) ≡ 2) × (q < 128) ⌝ }
     ensures { λ _. ⌜ Adds (now (set .entry)) (PutIf (now (a .entry)) p q) (now (set .exit)) ⌝ }
 {
     if bits::test(a, p) {
-        put_state(set, q);
+        bits::put_in_two(set, q);
     }
 }
 

@@ -29,7 +29,7 @@ add-due-spec =
     -- returns
     (λ c. let i = c .before .before .before .loop .inv in dues-done _ _ _ (i .1) (c .before .first-missing .ensures) (c .if1 .taken))
     (λ c. search needs)
-    -- put-state-requires
+    -- put-in-two-requires
     (λ c κs. let m = c .before .before in let w = m .first-missing .ensures .within in omega arith)
     (λ c. search needs) (λ c. search needs) (λ c. search needs)
     -- put-if-requires
@@ -43,7 +43,7 @@ add-due-spec =
     -- loop-less
     (λ c.
     let p = c .before .before .before .before .before in
-    missing-less (p .before .before .before .first-missing .ensures) (p .before .before .if1 .left) (p .put-state .ensures))
+    missing-less (p .before .before .before .first-missing .ensures) (p .before .before .if1 .left) (p .put-in-two .ensures))
     -- loop-again
     (λ c.
     let u = c .before .before in
@@ -51,5 +51,5 @@ add-due-spec =
     let m = p .before .before .before in
     let i = m .before .before .loop .inv in
     let g = dues-turn _ _ _ (i .1) (m .first-missing .ensures) (p .before .before .if1 .left)
-    (p .put-state .ensures) (u .put-if .ensures) in
+    (p .put-in-two .ensures) (u .put-if .ensures) in
     (u .put-if .ensures .long ∙ i .0, g)))

@@ -1,6 +1,5 @@
 -- `put_full` puts an entry, or leaves the full ones. Assumes nothing.
 use borrow.Author.Needs.{needs}
-use native.Mathlib.Omega.{arith}
 use Rattle.walk.proofs.ExitLaws.{filled-none, filled-law}
 use Rattle.walk.proofs.exits.put_full.Statement.{statement}
 use Rattle.walk.proofs.exits.put_full.Tie as tie
@@ -14,6 +13,6 @@ put-full-spec =
     let p = c .before .before in
     let i = p .before .before in
     let g = i .before in
-    filled-law _ _ _ _ (g .before .before .before .pre .1) (g .gap .ensures) (i .if1 .taken) (p .put-state .ensures))
+    filled-law _ _ _ _ (g .before .before .before .pre .1) (g .gap .ensures) (i .if1 .taken) (p .put-in-two .ensures))
     -- returns-2
     (λ c. filled-none _ _ _ _ _))

@@ -56,7 +56,7 @@ saturate-spec =
       (l .loop .inv .full, l .before .before .before .known .ensures .1),
     ))
     (λ c. search needs)
-    -- put-state-requires
+    -- put-in-two-requires
     (λ c κs.
     let m = c .before .before in
     let w = m .first-missing .ensures .within in
@@ -129,7 +129,7 @@ saturate-spec =
     -- loop-less
     (λ c.
     let t = c .before .before .before .before .before .before .before .before .before .before .before .before .before .before in
-    missing-less (t .before .before .before .first-missing .ensures) (t .before .before .if1 .left) (t .put-state .ensures))
+    missing-less (t .before .before .before .first-missing .ensures) (t .before .before .if1 .left) (t .put-in-two .ensures))
     -- loop-again
     (λ c.
     let f = c .before .before .before .before .before in
@@ -138,5 +138,5 @@ saturate-spec =
     let m = t .before .before .before in
     let n = m .before .before .before in
     saturating-turn _ _ _ _ _ _ _ _ _ (n .before .before .loop .inv) (n .intersect .ensures) (m .first-missing .ensures)
-    (t .before .before .if1 .left) (t .put-state .ensures) _ refl (a .add-row .ensures) (f .put-full .ensures)
+    (t .before .before .if1 .left) (t .put-in-two .ensures) _ refl (a .add-row .ensures) (f .put-full .ensures)
     (c .before .lead-if .ensures)))

@@ -14,6 +14,6 @@ put-if-spec =
     -- returns
     (λ c.
     let t = c .before .before .before .before in
-    put-if-put _ _ (sym (t .before .test .ensures) ∙ t .if1 .taken) (c .before .before .put-state .ensures))
+    put-if-put _ _ (sym (t .before .test .ensures) ∙ t .if1 .taken) (c .before .before .put-in-two .ensures))
     -- returns-2
     (λ c. adds-none _ _ (λ t i. false≢true (sym (c .if1 .left) ∙ c .before .test .ensures ∙ i .1))))
