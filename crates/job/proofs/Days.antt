@@ -12,7 +12,7 @@ use Rattle.day.specs.DayFile.{DayEvent, letterOf, Lines, done, more}
 use Rattle.day.specs.DayAnswer as day
 use Rattle.day.specs.DayAnswer.{DayAnswer}
 use Rattle.day.specs.DayMeaning.{DayMeaning, Whole, long-file, many-lines, malformed-line, wrong-second, short-buffer, accepted}
-use Rattle.judge.specs.JudgeMeaning.{LegalWord}
+use Rattle.matcher.specs.MatchMeaning.{LegalWord}
 
 -- an answer that accepts: the events, and that it is no other answer
 pub record DayAccepting (file ls ss : List ℕ) (a : DayAnswer) : Type 0 where

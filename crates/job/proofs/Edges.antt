@@ -19,15 +19,17 @@ use Rattle.day.specs.DayLines.{lineOf, dayLines}
 use Rattle.day.specs.DayAnswer.{dayAnswer}
 use Rattle.work.specs.Count.{fullCount}
 use Rattle.work.specs.Table.{obeys, block, table, found}
+use Rattle.table.specs.Layout.{spanBit}
+use Rattle.matcher.specs.MatchAnswer.{fitAnswer, matchAnswer}
 use Rattle.judge.specs.JudgeAnswer.{judgeAnswer}
 use Rattle.listing.specs.Lines.{spanLines}
-use Rattle.listing.specs.Marked.{markedFrom, listing}
+use Rattle.listing.specs.Marked.{ends, starts, listing}
 use Rattle.job.specs.JobAnswer.{jobResult, refusal, acceptance, jobAnswer, jobText}
 
 -- 01, The program: "Whole case"
 whole-case : jobText (bytes "R\t!a\nE\t0\ta\n") ≡ bytes "H\t1\t2\t1\t2\t7\nS\t0\t0\nS\t1\t1\n"
-unfolding jobText jobResult decimalIn listing spanLines markedFrom judgeAnswer dayAnswer dayLines lineOf leading isEvent
-    ruleAnswer treeOf parse scanFrom accepts fullCount obeys block table found packedRun packed onesOf ones hasBit bitAt
+unfolding jobText jobResult decimalIn listing spanLines ends starts spanBit judgeAnswer matchAnswer fitAnswer dayAnswer dayLines lineOf
+    leading isEvent ruleAnswer treeOf parse scanFrom accepts fullCount obeys block table found packedRun packed onesOf ones hasBit bitAt
 whole-case = refl
 
 -- what the program writes for a job
@@ -49,13 +51,13 @@ cases =
     ∷ ("R\t1\n", "H\t0\t1\t0\t1\t2\nS\t0\t0\n") ∷ ("R\ta\n", "H\t0\t1\t0\t0\t1\n") ∷ []
 
 written : map (λ (c : Case). jobText (bytes (c .0))) cases ≡ map (λ (c : Case). bytes (c .1)) cases
-unfolding cases jobText jobResult decimalIn listing spanLines markedFrom judgeAnswer dayAnswer dayLines lineOf leading isEvent
-    ruleAnswer treeOf parse scanFrom accepts fullCount obeys block table found packedRun packed onesOf ones hasBit bitAt
+unfolding cases jobText jobResult decimalIn listing spanLines ends starts spanBit judgeAnswer matchAnswer fitAnswer dayAnswer dayLines lineOf
+    leading isEvent ruleAnswer treeOf parse scanFrom accepts fullCount obeys block table found packedRun packed onesOf ones hasBit bitAt
 written = refl
 
 -- "15, last, where its buffer is shorter"; "keeps what lies beyond the part written"
 buffers : map (λ (n : ℕ). jobAnswer (bytes "R\ta\n") (replicate n 7)) (12 ∷ 11 ∷ 0 ∷ [])
     ≡ acceptance 0 1 (bytes "H\t0\t1\t0\t0\t1\n") (replicate 12 7) ∷ refusal 15 0 (replicate 11 7) ∷ refusal 15 0 [] ∷ []
-unfolding jobAnswer jobResult decimalIn listing spanLines markedFrom judgeAnswer dayAnswer dayLines lineOf leading isEvent
-    ruleAnswer treeOf parse scanFrom accepts fullCount obeys block table found packedRun packed onesOf ones hasBit bitAt
+unfolding jobAnswer jobResult decimalIn listing spanLines ends starts spanBit judgeAnswer matchAnswer fitAnswer dayAnswer dayLines lineOf
+    leading isEvent ruleAnswer treeOf parse scanFrom accepts fullCount obeys block table found packedRun packed onesOf ones hasBit bitAt
 buffers = refl

@@ -1,24 +1,23 @@
 -- The listing of the first block lists exactly the spans that obey, and no other text does. Assumes nothing.
-use Prim.Native.Nat.{ℕ, _+_, _*_, _/_, _%_, _≤_, _<_}
-use native.Mathlib.Omega.{arith}
+use Prim.Native.Nat.{ℕ, _≤_}
 use mathlib.Core.Path.{_≡_, sym, ap, ap₂, _∙_}
 use mathlib.Core.List.{List, _++_, append-assoc, List·Memᴰ}
 use lib.ListN.{length, take}
 use lib.Seq.{take-at}
-use Rattle.bits.specs.Bit.{bitAt}
 use Rattle.event.specs.Event.{Word}
 use Rattle.event.proofs.Tests.{T-of, of-T}
 use Rattle.regex.specs.Tree.{Tree, size, specials}
 use Rattle.work.specs.Count.{fullCount}
 use Rattle.work.specs.Span.{Obeys}
 use Rattle.work.specs.Spans.{Spans, obeying}
-use Rattle.work.specs.Table.{obeys, position, block, blocks, blockLength, specialParts, table, found}
+use Rattle.work.specs.Table.{obeys, block, blocks, blockLength, specialParts, table, found}
 use Rattle.work.specs.Walk.{Collection}
 use Rattle.work.proofs.Found.{found-listed}
 use Rattle.work.proofs.Listed.{listed, listed-order}
 use Rattle.work.proofs.Sizes.{size-unique}
-use Rattle.work.proofs.TableLaws.{obeys-eq, block-length, block-bit}
+use Rattle.work.proofs.TableLaws.{obeys-eq, block-length}
 use Rattle.work.proofs.WorkSize.{collection-size}
+use Rattle.table.proofs.LayoutLaws.{block-span}
 use Rattle.listing.specs.Lines.{headLine, spanLines}
 use Rattle.listing.specs.Marked.{marked, listing}
 use Rattle.listing.proofs.ListingLaws.{marked-has, marked-order, order-one}
@@ -33,32 +32,20 @@ first-block w t rest =
     ∙ take-at (block w t) (blocks w (specialParts t) ++ rest) (blockLength (length w)) (block-length w t)
 
 module _ (w : Word) (t : Tree) (short : length w ≤ 255) where
-  -- the bit of a span that the block has
-  bit-of : (i j : ℕ) → j < 256 → position i j < 64 * length (block w t) → bitAt (block w t) (position i j) ≡ obeys w t i j
-  bit-of i j h l =
-      let e = block-length w t in
-      let a : (256 * i + j) / 256 ≡ i = omega arith in
-      let b : (256 * i + j) % 256 ≡ j = omega arith in
-      block-bit w t (position i j) (omega arith) ∙ ap₂ (obeys w t) a b
-
-  marks-obey : (p : ℕ × ℕ) → List·Memᴰ p (marked (block w t)) → Obeys w t (p .0) (p .1)
+  marks-obey : (p : ℕ × ℕ) → List·Memᴰ p (marked (length w) (block w t)) → Obeys w t (p .0) (p .1)
   marks-obey p m =
-      let h = marked-has (block w t) p .0 m in
-      obeys-eq w t (p .0) (p .1) .0 (T-of (obeys w t (p .0) (p .1)) (sym (bit-of (p .0) (p .1) (h .0) (h .1)) ∙ h .2))
+      let (h, k, e) = marked-has (length w) (block w t) p .0 m in
+      obeys-eq w t (p .0) (p .1) .0 (T-of (obeys w t (p .0) (p .1)) (sym (block-span w t short (p .0) (p .1) h k) ∙ e))
 
-  obey-marks : (p : ℕ × ℕ) → Obeys w t (p .0) (p .1) → List·Memᴰ p (marked (block w t))
+  obey-marks : (p : ℕ × ℕ) → Obeys w t (p .0) (p .1) → List·Memᴰ p (marked (length w) (block w t))
   obey-marks p o =
-      let a = o .order in
-      let b = o .inside in
-      let l = block-length w t in
-      let i : p .1 < 256 = omega arith in
-      let j : position (p .0) (p .1) < 64 * length (block w t) = omega arith in
-      marked-has (block w t) p .1 (i, j, bit-of (p .0) (p .1) i j ∙ of-T (obeys w t (p .0) (p .1)) (obeys-eq w t (p .0) (p .1) .1 o))
+      let e = of-T (obeys w t (p .0) (p .1)) (obeys-eq w t (p .0) (p .1) .1 o) in
+      marked-has (length w) (block w t) p .1 (o .order, o .inside, block-span w t short (p .0) (p .1) (o .order) (o .inside) ∙ e)
 
   -- 01, The program: "each span whose bit is 1 in the first block .. by rising i and then rising j": the spans that obey, in order
-  pub listed-marked : marked (block w t) ≡ obeying w t
+  pub listed-marked : marked (length w) (block w t) ≡ obeying w t
   listed-marked =
-      order-one (marked (block w t)) (obeying w t) (marked-order (block w t)) (listed-order w t) (λ p. (
+      order-one (marked (length w) (block w t)) (obeying w t) (marked-order (length w) (block w t)) (listed-order w t) (λ p. (
         λ m. listed w t (p .0) (p .1) .1 (marks-obey p m),
         λ m. obey-marks p (listed w t (p .0) (p .1) .0 m),
       ))

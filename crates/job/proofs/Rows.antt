@@ -24,12 +24,13 @@ use Rattle.day.proofs.Answered as day-answered
 use Rattle.work.specs.Count.{fullCount}
 use Rattle.work.specs.Table.{needOf, found, block}
 use Rattle.work.proofs.WorkBound.{full-bound}
-use Rattle.judge.specs.JudgeAnswer as judge
+use Rattle.matcher.specs.MatchAnswer as matcher
+use Rattle.matcher.specs.MatchMeaning.{LegalWord}
+use Rattle.matcher.proofs.Tested.{need-most, at-acceptance}
 use Rattle.judge.specs.JudgeAnswer.{JudgeAnswer, judgeAnswer}
-use Rattle.judge.specs.JudgeMeaning.{Passed, LegalWord}
+use Rattle.judge.specs.JudgeMeaning.{Passed}
 use Rattle.judge.proofs.Determined.{to-limit}
 use Rattle.judge.proofs.Joined.{accepting, refusing, passes}
-use Rattle.judge.proofs.Tested.{need-most, at-acceptance}
 use Rattle.job.specs.JobAnswer.{refused, listed, limitOf, afterJudge, afterDay, afterRule, isJob, ruleOf, dayOf, jobResult}
 use Rattle.job.specs.JobMeaning.{Parted, DayRefused, Judged}
 use Rattle.job.proofs.Days.{day-accepting, rebuffered, legal-word}
@@ -92,7 +93,7 @@ limit-enough w t = omega (arith, full-bound w t)
 
 -- the judge accepts every job that comes to it
 pub judge-accepts : {rule : List ℕ} {t : Tree} {w : Word} → Passed rule t → LegalWord w
-    → judgeAnswer rule w (limitOf (size t) (length w)) (replicate 8192 0) ≡ judge.acceptance t w (replicate 8192 0)
+    → judgeAnswer rule w (limitOf (size t) (length w)) (replicate 8192 0) ≡ matcher.acceptance t w (replicate 8192 0)
 judge-accepts {rule} {t} {w} p l =
     let z = length-replicate {A = ℕ} 8192 0 in
     let m = need-most (specials t) (length w) (p .special) (l .fits) in
@@ -102,7 +103,7 @@ judge-accepts {rule} {t} {w} p l =
 
 -- what is left of the judge's answer: found, count and the text
 after-acceptance : (w : Word) (t : Tree) (old : List ℕ)
-    → afterJudge (judge.acceptance t w old) (length w) (size t) (specials t) ≡ listed (heading w t) (block w t)
+    → afterJudge (matcher.acceptance t w old) (length w) (size t) (specials t) ≡ listed (heading w t) (block w t)
 after-acceptance w t old = ap (listed (heading w t)) (first-block w t (drop (needOf (specials t) (length w)) old))
 
 -- the judge's row, for a day that passes

@@ -23,7 +23,7 @@ use Rattle.day.specs.DayMeaning as day-meaning
 use Rattle.day.specs.declared.Outcome as day-type
 use Rattle.day.proofs.Outcome as day-declared
 use Rattle.day.specs.declared.Outcome.the-variants as day-outcome
-use Rattle.judge.specs.JudgeAnswer as judge
+use Rattle.matcher.specs.MatchAnswer as matcher
 use Rattle.judge.specs.JudgeAnswer.{JudgeAnswer, judgeAnswer, judgeValues}
 use Rattle.judge.specs.declared.Outcome as judge-type
 use Rattle.judge.proofs.Outcome as judge-declared
@@ -141,9 +141,9 @@ judge-stop n m k old j o b v e t w =
     ap₂ (λ (x y : ℕ). refusal x y old) a p ∙ refused-written (afterJudge j n m k) (j .number) (j .place) old (simp (ne-eqb (j .number) 0 h)) h
 
 -- the row lets the job pass
-pub judge-pass : (n m k f c : ℕ) (b : List ℕ) (j : JudgeAnswer) → judge.values 0 0 f c b ≡ j
-    → listed (record { n = n; m = m; k = k; found = f; count = c }) (take (blockLength n) b) ≡ afterJudge j n m k
-judge-pass n m k f c b j e = ap (λ (x : JudgeAnswer). afterJudge x n m k) e
+pub judge-pass : {first : ℕ} (n m k f c : ℕ) (b : List ℕ) (j : JudgeAnswer) → first ≡ blockLength n → matcher.values 0 0 f c b ≡ j
+    → listed (record { n = n; m = m; k = k; found = f; count = c }) (take first b) ≡ afterJudge j n m k
+judge-pass n m k f c b j l e = rw l (ap (λ (x : JudgeAnswer). afterJudge x n m k) e)
 
 -- ---- the text
 -- the buffer is shorter

@@ -12,6 +12,7 @@ ghost use mathlib.Core.List.{List};
 ghost use lib.ListN.{length, replicate};
 ghost use Rattle.rule.specs.RuleAnswer.{ruleAnswer};
 ghost use Rattle.day.specs.DayAnswer.{dayAnswer};
+ghost use Rattle.table.specs.Layout.{blockAt, Lies};
 ghost use Rattle.judge.specs.JudgeAnswer.{judgeAnswer};
 ghost use Rattle.job.specs.JobAnswer.{jobValues, jobAnswer, written, refusal, listed, limitOf, afterRule, afterDay, afterJudge};
 ghost use Rattle.job.specs.JobMeaning.{JobMeaning};
@@ -102,12 +103,12 @@ fn run_judge(rule: &[u8], m: usize, k: usize, word: &[u8], out: &mut [u8]) -> An
         found: found,
         count: count,
     };
-    list(heading, &table[..(n + 1) * 4], out)
+    list(heading, &table[..table::block_length(n)], out)
 }
 
 // Writes the listing of a block, if the buffer is long enough.
 fn list(heading: Heading, block: &[u64], out: &mut [u8]) -> Answer
-    requires { ⌜ length (now block) ≤ 1024 ⌝ }
+    requires { ⌜ Lies (blockAt 0 (heading .n)) (length (now block)) ⌝ }
     ensures { λ r. ⌜ jobValues r (now (out .exit)) ≡ written (listed heading (now (block .entry))) (now (out .entry)) ⌝ }
 {
     let n = listing::length(heading, block);

@@ -15,7 +15,8 @@ use Rattle.regex.specs.TreeOf.{treeOf}
 use Rattle.rule.specs.RuleAnswer.{ruleAnswer}
 use Rattle.work.specs.Count.{fullCount}
 use Rattle.work.specs.Table.{obeys, block, table, found}
-use Rattle.judge.specs.JudgeAnswer.{JudgeAnswer, values, refusal, judgeAnswer}
+use Rattle.matcher.specs.MatchAnswer.{values, refusal, fitAnswer, matchAnswer}
+use Rattle.judge.specs.JudgeAnswer.{JudgeAnswer, judgeAnswer}
 
 -- a rule, a word, a limit, how many numbers the table has, and the answer
 abbrev Case : Type 0
@@ -63,5 +64,5 @@ worked : Case → Case
 worked (s, w, limit, n, a) = (s, w, limit, n, judgeAnswer s w limit (dirt n))
 
 edges : map worked cases ≡ cases
-unfolding judgeAnswer ruleAnswer leading isEvent scanFrom treeOf parse fullCount accepts obeys block table found packed packedRun onesOf ones cases worked
+unfolding judgeAnswer matchAnswer fitAnswer ruleAnswer leading isEvent scanFrom treeOf parse fullCount accepts obeys block table found packed packedRun onesOf ones cases worked
 edges = refl

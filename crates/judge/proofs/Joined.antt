@@ -17,9 +17,10 @@ use Rattle.rule.proofs.Answered.{answer-means, answerOf}
 use Rattle.work.proofs.Order.{parts-rising}
 use Rattle.owners.specs.Filling.{treeFrom, Recorded}
 use Rattle.owners.proofs.Rebuilt.{tree-from}
-use Rattle.judge.specs.JudgeAnswer.{refusal, judged, judgeAnswer}
+use Rattle.matcher.specs.MatchAnswer.{refusal, matchAnswer}
+use Rattle.matcher.specs.Given.{RuleRecords}
+use Rattle.judge.specs.JudgeAnswer.{judgeAnswer}
 use Rattle.judge.specs.JudgeMeaning.{Passed}
-use Rattle.judge.specs.Judgeable.{Judgeable}
 
 -- an answer that accepts: the tree, and that it is no other answer
 pub record Accepting (s : List ℕ) (a : RuleAnswer) : Type 0 where
@@ -86,16 +87,16 @@ module _ (s : List ℕ) (w : Word) (limit : ℕ) (old : List ℕ) (r : Answer) (
     rebuilt : treeFrom (r .nodes) m ≡ read-as .tree
     rebuilt = tree-from (read-as .tree) (r .nodes) m recorded
 
-    pub judgeable : Judgeable (treeFrom (r .nodes) m) (r .nodes) m k
-    judgeable =
+    pub rule-records : RuleRecords (treeFrom (r .nodes) m) (r .nodes) m k
+    rule-records =
         let a = read-as in
         let l : k ≡ specials (a .tree) = ap (λ (x : RuleAnswer). x .k) (a .same) in
-        subst (λ (t : Tree). Judgeable t (r .nodes) m k) (sym rebuilt)
+        subst (λ (t : Tree). RuleRecords t (r .nodes) m k) (sym rebuilt)
         (record { recorded = recorded; special = sym l; few = omega (arith, a .passed .special); rising = parts-rising (a .passed .reads) })
 
-    pub after-acceptance : judged (treeFrom (r .nodes) m) w limit old ≡ judgeAnswer s w limit old
+    pub after-acceptance : matchAnswer (treeFrom (r .nodes) m) w limit old ≡ judgeAnswer s w limit old
     unfolding judgeAnswer
     after-acceptance =
         let n : ruleAnswer s .number ≡ 0 = ap (λ (x : RuleAnswer). x .number) (sym (known (Accepted m k) e)) in
-        ap (λ (t : Tree). judged t w limit old) (rebuilt ∙ sym (tree-is (read-as .passed .reads)))
+        ap (λ (t : Tree). matchAnswer t w limit old) (rebuilt ∙ sym (tree-is (read-as .passed .reads)))
         ∙ simp (eq-eqb (ruleAnswer s .number) 0 n)

@@ -1,22 +1,16 @@
 -- What the judge's answer says of a rule text, a word, a limit and the table at entry, by the grammar, the language and the collection
 -- of reached places: document 01's row "Judge". Assumes nothing.
 -- That `judgeAnswer` is the one answer which says so is `answer-means` in proofs/Answered and `answer-is` in proofs/Determined.
-use Prim.Native.Nat.{ℕ, _*_, _^_, _≤_, _<_}
-use mathlib.Core.Path.{_≡_}
-use mathlib.Core.Logic.{_↔_}
-use mathlib.Core.List.{List, _∷_, List·Memᴰ}
-use mathlib.Core.Bool.{true, false}
-use lib.ListN.{length, getD, take}
-use Rattle.bits.specs.Bit.{onesOf}
-use Rattle.event.specs.Event.{Word, isEvent}
+use Prim.Native.Nat.{ℕ, _≤_}
+use mathlib.Core.List.{List}
+use Rattle.event.specs.Event.{Word}
 use Rattle.regex.specs.Tree.{Tree, size, specials}
 use Rattle.regex.specs.Grammar.{Alt, Reads}
 use Rattle.rule.specs.RuleAnswer as reader
 use Rattle.rule.specs.RuleMeaning.{Legal, RuleMeaning}
-use Rattle.work.specs.SizeOf.{SizeOf}
-use Rattle.work.specs.Table.{HoldsBlock, SpecialPart, Rising, blockLength, needOf}
-use Rattle.work.specs.Walk.{Collection}
-use Rattle.judge.specs.JudgeAnswer.{JudgeAnswer, refusal, values}
+use Rattle.matcher.specs.MatchAnswer.{refusal}
+use Rattle.matcher.specs.MatchMeaning.{MatchMeaning}
+use Rattle.judge.specs.JudgeAnswer.{JudgeAnswer}
 
 -- 01: "Judge, after the rule text's row": the text s passes it, and the grammar reads it as t
 pub record Passed (s : List ℕ) (t : Tree) : Type 0 where
@@ -25,49 +19,9 @@ pub record Passed (s : List ℕ) (t : Tree) : Type 0 where
   pub nodes : size t ≤ 64
   pub special : specials t ≤ 7
 
--- every byte of the word before the n-th is an event
-abbrev pub EventsBefore : Word → ℕ → Type 0
-EventsBefore w n = (i : ℕ) → i < n → isEvent (getD w i 0) ≡ true
-
--- 01: "A word is 0 to 255 events"
-pub record LegalWord (w : Word) : Type 0 where
-  pub fits : length w ≤ 255
-  pub events : EventsBefore w (length w)
-
--- 01: "those beyond are never touched": past its first `need` numbers the run b is the run a
-pub record KeepsBeyond (need : ℕ) (a b : List ℕ) : Type 0 where
-  pub long : length b ≡ length a
-  pub beyond : (i : ℕ) → need ≤ i → getD b i 0 ≡ getD a i 0
-
--- 01: "The first block is for the whole rule. Then follows one block for each special node, in rising byte offset: the part of the rule
--- that the node heads, itself included."
-pub record HoldsTable (w : Word) (t : Tree) (b : List ℕ) : Type 0 where
-  pub parts : List Tree
-  pub special : (u : Tree) → List·Memᴰ u parts ↔ SpecialPart t 0 u
-  pub each : length parts ≡ specials t  -- "one block for each special node"
-  pub rising : Rising 0 parts
-  pub blocks : (k : ℕ) → k ≤ specials t → HoldsBlock w (getD (t ∷ parts) k t) b (k * blockLength (length w))
-  pub numbers : (i : ℕ) → i < needOf (specials t) (length w) → getD b i 0 < 2 ^ 64  -- "64-bit numbers"
-
--- one constructor for each number, those of the rule text's row together: what holds at entry, and the whole answer
+-- what holds at entry, and the whole answer
 pub data JudgeMeaning (s : List ℕ) (w : Word) (limit : ℕ) (old : List ℕ) : JudgeAnswer → Type 0 where
   -- 1 to 6: the rule text's row. "On every refusal but 10 .. no lent buffer changes"
   rule-refused : {n p : ℕ} → RuleMeaning s (reader.refusal n p) → JudgeMeaning s w limit old (refusal n p old)
-  -- "7: word over 255."
-  long-word : {t : Tree} → Passed s t → 255 < length w → JudgeMeaning s w limit old (refusal 7 0 old)
-  -- "8: a byte outside a to z; place is the first one's offset."
-  foreign-event : {t : Tree} {n : ℕ} → Passed s t → length w ≤ 255 → n < length w → EventsBefore w n → isEvent (getD w n 0) ≡ false
-      → JudgeMeaning s w limit old (refusal 8 n old)
-  -- "9: table too short."
-  short-table : {t : Tree} → Passed s t → LegalWord w → length old < needOf (specials t) (length w) → JudgeMeaning s w limit old (refusal 9 0 old)
-  -- "10: the count is above the limit": the size of the collection is; every size is, since there is one (`size-unique` in work).
-  -- "On 10 the needed numbers of the table are all 0 and the reported count is the limit."
-  limit-spent : {t : Tree} {c : ℕ} {b : List ℕ} → Passed s t → LegalWord w → needOf (specials t) (length w) ≤ length old
-      → SizeOf (Collection w t) c → limit < c
-      → ((i : ℕ) → i < needOf (specials t) (length w) → getD b i 0 ≡ 0) → KeepsBeyond (needOf (specials t) (length w)) old b
-      → JudgeMeaning s w limit old (values 10 0 0 limit b)
-  -- accepted: the count is the size of the collection; the table holds the blocks of t; found is "the number of ones in the first block"
-  accepted : {t : Tree} {c : ℕ} {b : List ℕ} → Passed s t → LegalWord w → needOf (specials t) (length w) ≤ length old
-      → SizeOf (Collection w t) c → c ≤ limit
-      → HoldsTable w t b → KeepsBeyond (needOf (specials t) (length w)) old b
-      → JudgeMeaning s w limit old (values 0 0 (onesOf (take (blockLength (length w)) b)) c b)
+  -- 7 to 10, or accepted: the text passes that row, and `MatchMeaning`, of matcher, has a constructor for each
+  rule-passed : {t : Tree} {a : JudgeAnswer} → Passed s t → MatchMeaning t w limit old a → JudgeMeaning s w limit old a

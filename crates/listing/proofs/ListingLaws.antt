@@ -1,85 +1,107 @@
 -- The marked spans of a block: which they are, that they are listed in order, and that an order lists them in one way. Assumes nothing.
-use Prim.Native.Nat.{ℕ, zero, suc, _+_, _*_, _≤_, _<_}
+use Prim.Native.Nat.{ℕ, zero, suc, _+_, _≤_, _<_}
 use native.Mathlib.Omega.{arith}
 use native.Mathlib.Nat.{eq-or-lt-of-le}
 use mathlib.Core.Path.{_≡_, refl, sym, ap, ap₂, _∙_}
 use mathlib.Core.Logic.{_⊎_, inl, inr, ⊎-elim, _↔_}
 use mathlib.Core.Bool.{Bool, true, false, false≢true}
-use mathlib.Core.List.{List, [], _∷_, List·Memᴰ, List·Memᴰ·head, List·Memᴰ·tail, List·Memᴰ·not-nil, List·Memᴰ·cases-cons}
-use lib.ListN.{length}
-use Rattle.bits.specs.Bit.{bitAt}
-use Rattle.bits.proofs.Digits.{below-or-not}
+use mathlib.Core.List.{List, [], _∷_, _++_, List·Memᴰ, List·Memᴰ·head, List·Memᴰ·tail, List·Memᴰ·not-nil, List·Memᴰ·cases-cons}
+use mathlib.Core.List.{List·Memᴰ·append-cases, Memᴰ·append-left, Memᴰ·append-right}
 use Rattle.work.specs.Spans.{Spans, listIf, Before, InOrder}
-use Rattle.work.specs.Table.{position, startOf, endOf}
-use Rattle.listing.specs.Marked.{markedFrom, marked}
+use Rattle.listing.specs.Marked.{ends, starts, marks, marked}
 
 -- ---- the members
--- s is the span of one of the positions p to p + d - 1, and its bit is 1
-abbrev Marks : List ℕ → ℕ → ℕ → ℕ × ℕ → Type 0
-Marks a d p s =
-    (s .1 < 256) × (p ≤ position (s .0) (s .1)) × (position (s .0) (s .1) < p + d) × (bitAt a (position (s .0) (s .1)) ≡ true)
+-- s begins at i, ends from j to j + d - 1, and passes
+abbrev Begins : (ℕ → Bool) → ℕ → ℕ → ℕ → ℕ × ℕ → Type 0
+Begins f i d j s = (s .0 ≡ i) × (j ≤ s .1) × (s .1 < j + d) × (f (s .1) ≡ true)
 
-marked-in : (a : List ℕ) (d p : ℕ) (s : ℕ × ℕ) → List·Memᴰ s (markedFrom a d p) → Marks a d p s
-unfolding markedFrom
-marked-in a zero p s m = absurd (List·Memᴰ·not-nil m)
-marked-in a (suc d) p s m = go (bitAt a p) refl m (marked-in a d (suc p) s)
+ends-in : (f : ℕ → Bool) (i d j : ℕ) (s : ℕ × ℕ) → List·Memᴰ s (ends f i d j) → Begins f i d j s
+unfolding ends
+ends-in f i zero j s m = absurd (List·Memᴰ·not-nil m)
+ends-in f i (suc d) j s m = go (f j) refl m (ends-in f i d (suc j) s)
   where
-    later : Marks a d (suc p) s → Marks a (suc d) p s
+    later : Begins f i d (suc j) s → Begins f i (suc d) j s
     later h = (h .0, omega (arith, h .1), omega (arith, h .2), h .3)
 
-    go : (b : Bool) → bitAt a p ≡ b → List·Memᴰ s (listIf b (startOf p) (endOf p) (markedFrom a d (suc p)))
-        → (List·Memᴰ s (markedFrom a d (suc p)) → Marks a d (suc p) s) → Marks a (suc d) p s
+    go : (b : Bool) → f j ≡ b → List·Memᴰ s (listIf b i j (ends f i d (suc j)))
+        → (List·Memᴰ s (ends f i d (suc j)) → Begins f i d (suc j) s) → Begins f i (suc d) j s
     go false e n r = later (r n)
     go true e n r =
-        ⊎-elim (λ (f : s ≡ (startOf p, endOf p)).
-        let i : s .0 ≡ startOf p = ap (λ (q : ℕ × ℕ). q .0) f in
-        let j : s .1 ≡ endOf p = ap (λ (q : ℕ × ℕ). q .1) f in
-        let g : position (s .0) (s .1) ≡ p = omega arith in
-        (omega arith, omega arith, omega arith, ap (bitAt a) g ∙ e))
+        ⊎-elim (λ (g : s ≡ (i, j)).
+        let k : s .1 ≡ j = ap (λ (q : ℕ × ℕ). q .1) g in
+        (ap (λ (q : ℕ × ℕ). q .0) g, omega arith, omega arith, ap f k ∙ e))
         (λ k. later (r k)) (List·Memᴰ·cases-cons n)
 
-marked-hit : (a : List ℕ) (d p : ℕ) (s : ℕ × ℕ) → Marks a d p s → List·Memᴰ s (markedFrom a d p)
-unfolding markedFrom
-marked-hit a zero p s h = absurd (omega (arith, h .1, h .2))
-marked-hit a (suc d) p s h = go (bitAt a p) refl (eq-or-lt-of-le (h .1)) (marked-hit a d (suc p) s)
+ends-hit : (f : ℕ → Bool) (i d j : ℕ) (s : ℕ × ℕ) → Begins f i d j s → List·Memᴰ s (ends f i d j)
+unfolding ends
+ends-hit f i zero j s h = absurd (omega (arith, h .1, h .2))
+ends-hit f i (suc d) j s h = go (f j) refl (eq-or-lt-of-le (h .1)) (ends-hit f i d (suc j) s)
   where
-    there : position (s .0) (s .1) ≡ p → s ≡ (startOf p, endOf p)
-    there e =
-        let i : s .0 ≡ startOf p = omega (arith, h .0) in
-        let j : s .1 ≡ endOf p = omega (arith, h .0) in
-        ap₂ (λ (m n : ℕ). (m, n)) i j
+    go : (b : Bool) → f j ≡ b → (j ≡ s .1) ⊎ (j < s .1) → (Begins f i d (suc j) s → List·Memᴰ s (ends f i d (suc j)))
+        → List·Memᴰ s (listIf b i j (ends f i d (suc j)))
+    go true e (inl g) r = List·Memᴰ·head (ap₂ (λ (x y : ℕ). (x, y)) (h .0) (sym g))
+    go true e (inr g) r = List·Memᴰ·tail (r (h .0, g, omega (arith, h .2), h .3))
+    go false e (inl g) r = absurd (false≢true (sym e ∙ ap f g ∙ h .3))
+    go false e (inr g) r = r (h .0, g, omega (arith, h .2), h .3)
 
-    go : (b : Bool) → bitAt a p ≡ b → (p ≡ position (s .0) (s .1)) ⊎ (p < position (s .0) (s .1))
-        → (Marks a d (suc p) s → List·Memᴰ s (markedFrom a d (suc p)))
-        → List·Memᴰ s (listIf b (startOf p) (endOf p) (markedFrom a d (suc p)))
-    go true e (inl f) r = List·Memᴰ·head (there (sym f))
-    go true e (inr f) r = List·Memᴰ·tail (r (h .0, f, omega (arith, h .2), h .3))
-    go false e (inl f) r = absurd (false≢true (sym e ∙ ap (bitAt a) f ∙ h .3))
-    go false e (inr f) r = r (h .0, f, omega (arith, h .2), h .3)
+-- s lies between i and i + d - 1, and passes
+abbrev Within : (ℕ → ℕ → Bool) → ℕ → ℕ → ℕ × ℕ → Type 0
+Within f d i s = (i ≤ s .0) × (s .0 ≤ s .1) × (s .1 < i + d) × (f (s .0) (s .1) ≡ true)
 
-pub marked-has : (a : List ℕ) (p : ℕ × ℕ) → List·Memᴰ p (marked a)
-    ↔ ((p .1 < 256) × (position (p .0) (p .1) < 64 * length a) × (bitAt a (position (p .0) (p .1)) ≡ true))
-marked-has a p = (
-  λ m. let h = marked-in a (64 * length a) 0 p m in (h .0, omega (arith, h .2), h .3),
-  λ h. marked-hit a (64 * length a) 0 p (h .0, omega arith, omega (arith, h .1), h .2),
+starts-in : (f : ℕ → ℕ → Bool) (d i : ℕ) (s : ℕ × ℕ) → List·Memᴰ s (starts f d i) → Within f d i s
+unfolding starts
+starts-in f zero i s m = absurd (List·Memᴰ·not-nil m)
+starts-in f (suc d) i s m =
+    ⊎-elim (λ k.
+    let h = ends-in (f i) i (suc d) i s k in
+    (omega (arith, h .0), omega (arith, h .0, h .1), h .2, ap (λ (x : ℕ). f x (s .1)) (h .0) ∙ h .3))
+    (λ k. let h = starts-in f d (suc i) s k in (omega (arith, h .0), h .1, omega (arith, h .2), h .3))
+    (List·Memᴰ·append-cases (ends (f i) i (suc d) i) m)
+
+starts-hit : (f : ℕ → ℕ → Bool) (d i : ℕ) (s : ℕ × ℕ) → Within f d i s → List·Memᴰ s (starts f d i)
+unfolding starts
+starts-hit f zero i s h = absurd (omega (arith, h .0, h .1, h .2))
+starts-hit f (suc d) i s h = go (eq-or-lt-of-le (h .0)) (starts-hit f d (suc i) s)
+  where
+    go : (i ≡ s .0) ⊎ (i < s .0) → (Within f d (suc i) s → List·Memᴰ s (starts f d (suc i)))
+        → List·Memᴰ s (ends (f i) i (suc d) i ++ starts f d (suc i))
+    go (inl e) r = Memᴰ·append-left (starts f d (suc i))
+        (ends-hit (f i) i (suc d) i s (sym e, omega (arith, h .1), h .2, ap (λ (x : ℕ). f x (s .1)) e ∙ h .3))
+    go (inr l) r = Memᴰ·append-right (ends (f i) i (suc d) i) (r (l, h .1, omega (arith, h .2), h .3))
+
+pub marked-has : (n : ℕ) (a : List ℕ) (p : ℕ × ℕ)
+    → List·Memᴰ p (marked n a) ↔ ((p .0 ≤ p .1) × (p .1 ≤ n) × (marks n a (p .0) (p .1) ≡ true))
+marked-has n a p = (
+  λ m. let h = starts-in (marks n a) (suc n) 0 p m in (h .1, omega (arith, h .2), h .3),
+  λ h. starts-hit (marks n a) (suc n) 0 p (omega arith, h .0, omega (arith, h .1), h .2),
 )
 
 -- ---- their order
-rising : (p : ℕ) (s : ℕ × ℕ) → s .1 < 256 → p < position (s .0) (s .1) → Before (startOf p, endOf p) s
-rising p s h l =
-    ⊎-elim (λ (k : startOf p < s .0). inl k) (λ (k : s .0 ≤ startOf p). inr (omega arith, omega arith)) (below-or-not (startOf p) (s .0))
-
-order-from : (a : List ℕ) (d p : ℕ) → InOrder (markedFrom a d p)
-unfolding markedFrom
-order-from a zero p = tt
-order-from a (suc d) p = go (bitAt a p) (order-from a d (suc p))
+ends-order : (f : ℕ → Bool) (i d j : ℕ) → InOrder (ends f i d j)
+unfolding ends
+ends-order f i zero j = tt
+ends-order f i (suc d) j = go (f j) (ends-order f i d (suc j))
   where
-    go : (b : Bool) → InOrder (markedFrom a d (suc p)) → InOrder (listIf b (startOf p) (endOf p) (markedFrom a d (suc p)))
-    go true o = (λ s m. let h = marked-in a d (suc p) s m in rising p s (h .0) (h .1), o)
+    go : (b : Bool) → InOrder (ends f i d (suc j)) → InOrder (listIf b i j (ends f i d (suc j)))
+    go true o = (λ s m. let h = ends-in f i d (suc j) s m in inr (sym (h .0), h .1), o)
     go false o = o
 
-pub marked-order : (a : List ℕ) → InOrder (marked a)
-marked-order a = order-from a (64 * length a) 0
+append-order : (l m : Spans) → InOrder l → InOrder m → ((p q : ℕ × ℕ) → List·Memᴰ p l → List·Memᴰ q m → Before p q) → InOrder (l ++ m)
+append-order [] m o r h = r
+append-order (p ∷ l) m o r h = (
+  λ q k. ⊎-elim (o .0 q) (h p q (List·Memᴰ·head refl)) (List·Memᴰ·append-cases l k),
+  append-order l m (o .1) r (λ s q k. h s q (List·Memᴰ·tail k)),
+)
+
+starts-order : (f : ℕ → ℕ → Bool) (d i : ℕ) → InOrder (starts f d i)
+unfolding starts
+starts-order f zero i = tt
+starts-order f (suc d) i =
+    append-order (ends (f i) i (suc d) i) (starts f d (suc i)) (ends-order (f i) i (suc d) i) (starts-order f d (suc i))
+    (λ p q k l. let e = ends-in (f i) i (suc d) i p k .0 in let h = starts-in f d (suc i) q l .0 in inl (omega arith))
+
+pub marked-order : (n : ℕ) (a : List ℕ) → InOrder (marked n a)
+marked-order n a = starts-order (marks n a) (suc n) 0
 
 -- ---- two lists in order with the same members are one list
 never-before : (p q : ℕ × ℕ) → Before p q → Before q p → ⊥

@@ -1,92 +1,131 @@
--- Laws of the lines of a block's positions: one stretch behind another, one position, and a number without bits. Assumes nothing.
-use Prim.Native.Nat.{ℕ, zero, suc, _+_, _-_, _*_, _/_, _%_, _≤_, _<_}
+-- Laws of the lines of a block: up to the next end of a row that passes, one line, one row behind another, how long they are.
+-- Assumes nothing.
+use Prim.Native.Nat.{ℕ, zero, suc, _+_, _-_, _*_, _≤_, _<_}
 use native.Mathlib.Omega.{arith}
 use mathlib.Core.Path.{_≡_, refl, sym, ap, ap₂, _∙_}
+use mathlib.Core.Logic.{_⊎_, inl, inr}
 use mathlib.Core.Bool.{Bool, true, false}
-use mathlib.Core.List.{List, [], _++_, append-assoc, append-nil}
-use lib.ListN.{length, getD, length-append}
-use Rattle.bits.specs.Bit.{hasBit, bitAt}
-use Rattle.bits.proofs.Digits.{zero-has}
+use mathlib.Core.List.{List, [], _∷_, _++_, append-assoc}
+use lib.ListN.{length, length-append}
+use Rattle.bits.specs.Bit.{bitAt}
+use Rattle.bits.proofs.Digits.{below-or-not}
 use Rattle.work.specs.Spans.{Spans, listIf}
-use Rattle.work.specs.Table.{startOf, endOf}
+use Rattle.table.specs.Layout.{blockAt, rowBit}
+use Rattle.table.proofs.LayoutLaws.{row-span}
 use Rattle.listing.specs.declared.Heading.{Heading}
 use Rattle.listing.specs.Lines.{headLine, spanLine, spanLines}
-use Rattle.listing.specs.Marked.{markedFrom, linesFrom, listing}
+use Rattle.listing.specs.Marked.{ends, starts, marks, listing, rowLines, blockLines, Next}
+use Rattle.listing.proofs.WrittenLaws.{line-short}
 
-lines-if : (b : Bool) (i j : ℕ) (l : Spans) → spanLines (listIf b i j l) ≡ spanLines (listIf b i j []) ++ spanLines l
+-- ---- a row
+module _ (f : ℕ → Bool) (i n : ℕ) where
+  -- the first of the ends that are left
+  first-end : (j : ℕ) → j ≤ n → rowLines f i n j ≡ spanLines (listIf (f j) i j (ends f i (suc n - suc j) (suc j)))
+  unfolding ends
+  first-end j h = let e : suc n - j ≡ suc (suc n - suc j) = omega arith in rw e refl
+
+  pub row-over : (j : ℕ) → n < j → rowLines f i n j ≡ []
+  unfolding ends spanLines
+  row-over j h = let e : suc n - j ≡ 0 = omega arith in rw e refl
+
+  -- one that passes
+  pub row-here : (j : ℕ) → j ≤ n → (j ≤ n → f j ≡ true) → rowLines f i n j ≡ spanLine i j ++ rowLines f i n (j + 1)
+  unfolding spanLines
+  row-here j h t =
+      let e : suc j ≡ j + 1 = omega arith in
+      first-end j h ∙ rw (t h) refl ∙ ap (λ (k : ℕ). spanLine i j ++ rowLines f i n k) e
+
+  pub row-length : (j : ℕ) → j ≤ n → (j ≤ n → f j ≡ true)
+      → length (rowLines f i n j) ≡ length (spanLine i j) + length (rowLines f i n (j + 1))
+  row-length j h t = ap length (row-here j h t) ∙ length-append (spanLine i j) (rowLines f i n (j + 1))
+
+  skip : (d j r : ℕ) → r ≡ j + d → ((k : ℕ) → j ≤ k → k < r → f k ≡ false) → rowLines f i n j ≡ rowLines f i n r
+  skip zero j r e h = let z : j ≡ r = omega arith in ap (rowLines f i n) z
+  skip (suc d) j r e h = go (below-or-not n j) (skip d (suc j) r (omega arith) (λ k l m. h k (omega arith) m))
+    where
+      go : (n < j) ⊎ (j ≤ n) → rowLines f i n (suc j) ≡ rowLines f i n r → rowLines f i n j ≡ rowLines f i n r
+      go (inl l) s = row-over j l ∙ sym (row-over r (omega arith))
+      go (inr l) s = let z : f j ≡ false = h j (omega arith) (omega arith) in first-end j l ∙ rw z s
+
+  pub row-next : {j r : ℕ} → Next f j n r → rowLines f i n j ≡ rowLines f i n r
+  row-next {j} {r} x = skip (r - j) j r (omega (arith, x .from)) (x .none)
+
+-- ---- a block
+lines-append : (l m : Spans) → spanLines (l ++ m) ≡ spanLines l ++ spanLines m
 unfolding spanLines
-lines-if true i j l = ap (_++ spanLines l) (sym (append-nil (spanLine i j)))
-lines-if false i j l = refl
+lines-append [] m = refl
+lines-append (p ∷ l) m =
+    ap (spanLine (p .0) (p .1) ++_) (lines-append l m) ∙ sym (append-assoc (spanLine (p .0) (p .1)) (spanLines l) (spanLines m))
 
-pub lines-add : (a : List ℕ) (d e p : ℕ) → linesFrom a (d + e) p ≡ linesFrom a d p ++ linesFrom a e (p + d)
-unfolding markedFrom spanLines
-lines-add a zero e p =
-    let f : 0 + e ≡ e = omega arith in
-    let g : p ≡ p + 0 = omega arith in
-    ap₂ (λ (m n : ℕ). linesFrom a m n) f g
-lines-add a (suc d) e p =
-    let f : suc d + e ≡ suc (d + e) = omega arith in
-    let g : suc p + d ≡ p + suc d = omega arith in
-    let here = spanLines (listIf (bitAt a p) (startOf p) (endOf p) []) in
-    ap (λ (n : ℕ). linesFrom a n p) f
-    ∙ lines-if (bitAt a p) (startOf p) (endOf p) (markedFrom a (d + e) (suc p))
-    ∙ ap (here ++_) (lines-add a d e (suc p) ∙ ap (λ (n : ℕ). linesFrom a d (suc p) ++ linesFrom a e n) g)
-    ∙ sym (append-assoc here (linesFrom a d (suc p)) (linesFrom a e (p + suc d)))
-    ∙ ap (_++ linesFrom a e (p + suc d)) (sym (lines-if (bitAt a p) (startOf p) (endOf p) (markedFrom a d (suc p))))
+module _ (f : ℕ → ℕ → Bool) (n : ℕ) where
+  pub block-over : (i : ℕ) → n < i → blockLines f n i ≡ []
+  unfolding starts spanLines
+  block-over i h = let e : suc n - i ≡ 0 = omega arith in rw e refl
 
-pub lines-begin : (a : List ℕ) (p : ℕ) → linesFrom a 0 p ≡ []
-unfolding markedFrom spanLines
-lines-begin a p = refl
+  block-here : (i : ℕ) → i ≤ n → blockLines f n i ≡ rowLines (f i) i n i ++ blockLines f n (i + 1)
+  unfolding starts
+  block-here i h =
+      let e : suc n - i ≡ suc (suc n - suc i) = omega arith in
+      let k : suc i ≡ i + 1 = omega arith in
+      ap (λ (d : ℕ). spanLines (starts f d i)) e
+      ∙ lines-append (ends (f i) i (suc (suc n - suc i)) i) (starts f (suc n - suc i) (suc i))
+      ∙ ap₂ (λ (d r : ℕ). spanLines (ends (f i) i d i) ++ blockLines f n r) (sym e) k
 
-pub lines-length : (a : List ℕ) (d e p : ℕ) → length (linesFrom a (d + e) p) ≡ length (linesFrom a d p) + length (linesFrom a e (p + d))
-lines-length a d e p = ap length (lines-add a d e p) ∙ length-append (linesFrom a d p) (linesFrom a e (p + d))
+-- ---- two tests that agree from j on
+ends-same : (f g : ℕ → Bool) (i d j : ℕ) → ((k : ℕ) → j ≤ k → k < j + d → f k ≡ g k) → ends f i d j ≡ ends g i d j
+unfolding ends
+ends-same f g i zero j h = refl
+ends-same f g i (suc d) j h =
+    ap₂ (λ (b : Bool) (l : Spans). listIf b i j l) (h j (omega arith) (omega arith))
+    (ends-same f g i d (suc j) (λ k l m. h k (omega arith) (omega arith)))
 
--- the next stretch fits where all of them do
-pub lines-within : (a : List ℕ) (d e c p : ℕ) → d + e ≤ c
-    → length (linesFrom a d p) + length (linesFrom a e (p + d)) ≤ length (linesFrom a c p)
-lines-within a d e c p h =
-    let f : c ≡ d + e + (c - (d + e)) = omega arith in
-    let g : length (linesFrom a c p) ≡ length (linesFrom a (d + e + (c - (d + e))) p) = ap (λ (n : ℕ). length (linesFrom a n p)) f in
-    omega (arith, g, lines-length a (d + e) (c - (d + e)) p, lines-length a d e p)
+-- the rows that are left of a block, of which one is read
+module _ (a row : List ℕ) (n i : ℕ) (short : n ≤ 255) (inside : i ≤ n)
+    (read : (k : ℕ) → k < 256 → bitAt row k ≡ rowBit a (blockAt 0 n) i k) where
+  pub block-row : blockLines (marks n a) n i ≡ rowLines (bitAt row) i n i ++ blockLines (marks n a) n (i + 1)
+  block-row =
+      block-here (marks n a) n i inside
+      ∙ ap (λ (l : Spans). spanLines l ++ blockLines (marks n a) n (i + 1))
+      (ends-same (marks n a i) (bitAt row) i (suc n - i) i
+      (λ k l m. sym (read k (omega arith) ∙ row-span a (blockAt 0 n) i k l (omega arith))))
 
--- ---- number by number, from the front of the block
-pub numbers-add : (a : List ℕ) (q : ℕ) → linesFrom a (64 * (q + 1)) 0 ≡ linesFrom a (64 * q) 0 ++ linesFrom a 64 (64 * q)
-numbers-add a q =
-    let e : 64 * (q + 1) ≡ 64 * q + 64 = omega arith in
-    let f : 0 + 64 * q ≡ 64 * q = omega arith in
-    ap (λ (n : ℕ). linesFrom a n 0) e ∙ lines-add a (64 * q) 64 0 ∙ ap (λ (n : ℕ). linesFrom a (64 * q) 0 ++ linesFrom a 64 n) f
+  pub block-length : length (blockLines (marks n a) n i) ≡ length (rowLines (bitAt row) i n i) + length (blockLines (marks n a) n (i + 1))
+  block-length = ap length block-row ∙ length-append (rowLines (bitAt row) i n i) (blockLines (marks n a) n (i + 1))
 
-pub numbers-within : (a : List ℕ) (q n : ℕ) → q < n
-    → length (linesFrom a (64 * q) 0) + length (linesFrom a 64 (64 * q)) ≤ length (linesFrom a (64 * n) 0)
-numbers-within a q n h =
-    let f : 0 + 64 * q ≡ 64 * q = omega arith in
-    let e = ap (λ (m : ℕ). length (linesFrom a 64 m)) f in
-    omega (arith, e, lines-within a (64 * q) 64 (64 * n) 0 (omega arith))
+-- ---- how long they are
+ends-few : (f : ℕ → Bool) (i d j : ℕ) → length (ends f i d j) ≤ d
+unfolding ends
+ends-few f i zero j = omega arith
+ends-few f i (suc d) j = go (f j) (ends-few f i d (suc j))
+  where
+    go : (b : Bool) → length (ends f i d (suc j)) ≤ d → length (listIf b i j (ends f i d (suc j))) ≤ suc d
+    go true h = omega arith
+    go false h = omega arith
 
--- ---- one position
-pub lines-marked : (a : List ℕ) (p : ℕ) → bitAt a p ≡ true → linesFrom a 1 p ≡ spanLine (startOf p) (endOf p)
-unfolding markedFrom spanLines
-lines-marked a p e = rw e (append-nil (spanLine (startOf p) (endOf p)))
+starts-few : (f : ℕ → ℕ → Bool) (d i : ℕ) → d ≤ 256 → length (starts f d i) ≤ 256 * d
+unfolding starts
+starts-few f zero i h = omega arith
+starts-few f (suc d) i h =
+    let e = length-append (ends (f i) i (suc d) i) (starts f d (suc i)) in
+    omega (arith, ends-few (f i) i (suc d) i, starts-few f d (suc i) (omega arith))
 
-pub lines-clear : (a : List ℕ) (p : ℕ) → bitAt a p ≡ false → linesFrom a 1 p ≡ []
-unfolding markedFrom spanLines
-lines-clear a p e = rw e refl
+lines-few : (l : Spans) → length (spanLines l) ≤ 44 * length l
+unfolding spanLines
+lines-few [] = omega arith
+lines-few (p ∷ l) = omega (arith, length-append (spanLine (p .0) (p .1)) (spanLines l), line-short 83 (p .0) (p .1), lines-few l)
 
--- ---- a number without bits
-marked-none : (a : List ℕ) (d p : ℕ) → ((r : ℕ) → p ≤ r → r < p + d → bitAt a r ≡ false) → markedFrom a d p ≡ []
-unfolding markedFrom
-marked-none a zero p h = refl
-marked-none a (suc d) p h =
-    rw (h p (omega arith) (omega arith)) (marked-none a d (suc p) (λ r l g. h r (omega arith) (omega arith)))
+pub row-most : (f : ℕ → Bool) (i n : ℕ) → n ≤ 255 → length (rowLines f i n i) ≤ 44 * 256
+row-most f i n h = omega (arith, lines-few (ends f i (suc n - i) i), ends-few f i (suc n - i) i)
 
-pub lines-none : (a : List ℕ) (q : ℕ) → getD a q 0 ≡ 0 → linesFrom a 64 (64 * q) ≡ []
-unfolding spanLines bitAt
-lines-none a q e =
-    ap spanLines (marked-none a 64 (64 * q) (λ r l g.
-    let f : r / 64 ≡ q = omega arith in
-    ap (λ (n : ℕ). hasBit (r % 64) (getD a n 0)) f ∙ ap (hasBit (r % 64)) e ∙ zero-has (r % 64)))
+pub block-most : (f : ℕ → ℕ → Bool) (n : ℕ) → n ≤ 255 → length (blockLines f n 0) ≤ 44 * 65536
+block-most f n h = omega (arith, lines-few (starts f (suc n - 0) 0), starts-few f (suc n - 0) 0 (omega arith))
 
 -- ---- the listing: its heading, and then all lines
-pub listing-length : (h : Heading) (a : List ℕ) → length (listing h a) ≡ length (headLine h) + length (linesFrom a (64 * length a) 0)
+pub listing-is : (h : Heading) (a : List ℕ) → listing h a ≡ headLine h ++ blockLines (marks (h .n) a) (h .n) 0
 unfolding listing
-listing-length h a = length-append (headLine h) (linesFrom a (64 * length a) 0)
+listing-is h a =
+    let e : suc (h .n) ≡ suc (h .n) - 0 = omega arith in
+    ap (λ (d : ℕ). headLine h ++ spanLines (starts (marks (h .n) a) d 0)) e
+
+pub listing-length : (h : Heading) (a : List ℕ) → length (listing h a) ≡ length (headLine h) + length (blockLines (marks (h .n) a) (h .n) 0)
+listing-length h a = ap length (listing-is h a) ∙ length-append (headLine h) (blockLines (marks (h .n) a) (h .n) 0)

@@ -3,7 +3,7 @@ use Prim.Native.Nat.{ℕ, zero, suc, _+_, _-_, _≤_, _<_}
 use native.Mathlib.Omega.{arith}
 use native.Mathlib.Numerals.{add-one}
 use mathlib.Core.Path.{_≡_, refl, sym, ap, ap₂, _∙_, subst}
-use mathlib.Core.List.{List, [], _∷_, _++_, append-assoc}
+use mathlib.Core.List.{List, [], _∷_, _++_, append-assoc, append-nil}
 use lib.ListN.{length, getD, take, drop, set, replicate, length-append, length-replicate}
 use lib.Seq.{sets, sets-eq, length-sets, take-suc, take-at}
 use Rattle.decimal.specs.Decimal.{decimal}
@@ -71,13 +71,49 @@ module _ {bytes : List ℕ} {len : ℕ} (x : ℕ)
       ap length (digits .0) ∙ length-append (decimal x) (zeros (20 - length (decimal x)))
       ∙ omega (arith, length-replicate {A = ℕ} (20 - length (decimal x)) 0)
 
+-- ---- a text that is being written, piece by piece: all of it stands but `rest`
+pub record PartWritten (old : List ℕ) (at : ℕ) (whole rest mid : List ℕ) (m : ℕ) : Type 0 where
+  pub done : List ℕ
+  pub written : Written old at done mid m
+  pub onward : done ++ rest ≡ whole
+
+pub part-start : {whole rest : List ℕ} (old : List ℕ) (at : ℕ) → rest ≡ whole → PartWritten old at whole rest old at
+part-start old at e = record { done = []; written = written-none old at; onward = e }
+
+module _ {old whole mid : List ℕ} {at m : ℕ} where
+  pub part-fits : {rest : List ℕ} → PartWritten old at whole rest mid m → at + length whole ≤ length old → m + length rest ≤ length mid
+  part-fits {rest} u h =
+      let e = ap length (u .onward) in
+      omega (arith, e, length-append (u .done) rest, u .written .upto, written-long (u .written))
+
+  -- the next piece
+  pub part-more : {s rest new : List ℕ} {n : ℕ} (left : List ℕ) → PartWritten old at whole rest mid m → rest ≡ s ++ left
+      → Written mid m s new n → PartWritten old at whole left new n
+  part-more {s} left u e w = record {
+    done = u .done ++ s;
+    written = written-then (u .written) w;
+    onward = append-assoc (u .done) s left ∙ ap (u .done ++_) (sym e) ∙ u .onward;
+  }
+
+  pub part-as : {rest left : List ℕ} → rest ≡ left → PartWritten old at whole rest mid m → PartWritten old at whole left mid m
+  part-as e u = record { done = u .done; written = u .written; onward = ap (u .done ++_) (sym e) ∙ u .onward }
+
+  pub part-long : {rest : List ℕ} → PartWritten old at whole rest mid m → length mid ≡ length old
+  part-long u = written-long (u .written)
+
+  pub part-done : {rest : List ℕ} → PartWritten old at whole rest mid m → rest ≡ [] → Written old at whole mid m
+  part-done u e = written-as (sym (append-nil (u .done)) ∙ ap (u .done ++_) (sym e) ∙ u .onward) (u .written)
+
 -- ---- a line, field by field
 pub fields-length : (x : ℕ) (l : List ℕ) → length (fields (x ∷ l)) ≡ length (field x) + length (fields l)
 fields-length x l = length-append (field x) (fields l)
 
--- a line of two fields is short
+-- a line of two fields, which is short
+pub line-length : (c x y : ℕ) → length (line c (x ∷ y ∷ [])) ≡ 2 + length (field x) + length (field y)
+line-length c x y = omega (arith, fields-length x (y ∷ []), fields-length y [])
+
 pub line-short : (c x y : ℕ) → 0 + length (line c (x ∷ y ∷ [])) ≤ 44
-line-short c x y = omega (arith, fields-length x (y ∷ []), fields-length y [], decimal-length x, decimal-length y)
+line-short c x y = omega (arith, line-length c x y, decimal-length x, decimal-length y)
 
 pub head-length : (h : Heading) → length (headLine h)
     ≡ 2 + length (field (h .n)) + length (field (h .m)) + length (field (h .k)) + length (field (h .found)) + length (field (h .count))
@@ -88,33 +124,22 @@ head-length h =
     omega (arith, e, f, fields-length (h .k) (h .found ∷ last), fields-length (h .found) last, fields-length (h .count) [])
 
 -- of the line `whole` all is written but the fields l and the newline
-pub record Begun (old : List ℕ) (at : ℕ) (whole l mid : List ℕ) (m : ℕ) : Type 0 where
-  pub done : List ℕ
-  pub written : Written old at done mid m
-  pub onward : done ++ fields l ≡ whole
+pub record LineBegun (old : List ℕ) (at : ℕ) (whole l mid : List ℕ) (m : ℕ) : Type 0 where
+  pub text : PartWritten old at whole (fields l) mid m
 
-pub begun : {old mid : List ℕ} {at m c : ℕ} (l : List ℕ) → Written old at (c ∷ []) mid m → Begun old at (line c l) l mid m
-begun {c = c} l w = record { done = c ∷ []; written = w; onward = refl }
+pub begun : {old mid : List ℕ} {at m c : ℕ} (l : List ℕ) → Written old at (c ∷ []) mid m → LineBegun old at (line c l) l mid m
+begun {c = c} l w = record { text = record { done = c ∷ []; written = w; onward = refl } }
 
 module _ {old whole mid : List ℕ} {at m : ℕ} where
-  left-length : {l : List ℕ} (b : Begun old at whole l mid m) → at + length whole ≤ length old → m + length (fields l) ≤ length mid
-  left-length {l} b h =
-      let e = ap length (b .onward) in
-      omega (arith, e, length-append (b .done) (fields l), b .written .upto, written-long (b .written))
-
-  pub field-fits : {x : ℕ} {l : List ℕ} → Begun old at whole (x ∷ l) mid m → at + length whole ≤ length old
+  pub field-fits : {x : ℕ} {l : List ℕ} → LineBegun old at whole (x ∷ l) mid m → at + length whole ≤ length old
       → m + length (field x) ≤ length mid
-  field-fits {x} {l} b h = omega (arith, left-length b h, fields-length x l)
+  field-fits {x} {l} b h = omega (arith, part-fits (b .text) h, fields-length x l)
 
-  pub newline-fits : Begun old at whole [] mid m → at + length whole ≤ length old → m < length mid
-  newline-fits b h = omega (arith, left-length b h)
+  pub newline-fits : LineBegun old at whole [] mid m → at + length whole ≤ length old → m < length mid
+  newline-fits b h = omega (arith, part-fits (b .text) h)
 
-  pub begun-field : {x n : ℕ} {l new : List ℕ} → Begun old at whole (x ∷ l) mid m → Written mid m (field x) new n → Begun old at whole l new n
-  begun-field {x} {l = l} b w = record {
-    done = b .done ++ field x;
-    written = written-then (b .written) w;
-    onward = append-assoc (b .done) (field x) (fields l) ∙ b .onward;
-  }
+  pub begun-field : {x n : ℕ} {l new : List ℕ} → LineBegun old at whole (x ∷ l) mid m → Written mid m (field x) new n → LineBegun old at whole l new n
+  begun-field {l = l} b w = record { text = part-more (fields l) (b .text) refl w }
 
-  pub begun-newline : {new : List ℕ} {n : ℕ} → Begun old at whole [] mid m → Written mid m (10 ∷ []) new n → Written old at whole new n
-  begun-newline b w = written-as (b .onward) (written-then (b .written) w)
+  pub begun-newline : {new : List ℕ} {n : ℕ} → LineBegun old at whole [] mid m → Written mid m (10 ∷ []) new n → Written old at whole new n
+  begun-newline b w = part-done (part-more [] (b .text) refl w) refl

@@ -12,6 +12,7 @@ ghost use mathlib.Core.Path.{_≡_};
 ghost use mathlib.Core.List.{_++_};
 ghost use Prim.Native.Nat.{_-_, _≤_};
 ghost use lib.ListN.{length, drop, replicate};
+ghost use Rattle.table.specs.Layout.{blockAt, Lies};
 ghost use Rattle.listing.specs.Lines.{headLine, refusalLine};
 ghost use Rattle.listing.specs.Marked.{listing};
 ghost use Rattle.listing.specs.Written.{Written};
@@ -44,9 +45,9 @@ pub fn refusal(number: u64, place: u64) -> Line
     }
 }
 
-// The length of a listing; the bound of the block, which is the largest block's, keeps the sum far below 64 bits.
+// The length of a listing.
 pub fn length(heading: Heading, block: &[u64]) -> usize
-    requires { ⌜ length (now block) ≤ 1024 ⌝ }
+    requires { ⌜ Lies (blockAt 0 (heading .n)) (length (now block)) ⌝ }
     ensures { λ r. ⌜ r ≡ length (listing heading (now (block .entry))) ⌝ }
 {
     let n_length = field_length(heading.n);
@@ -54,7 +55,8 @@ pub fn length(heading: Heading, block: &[u64]) -> usize
     let k_length = field_length(heading.k);
     let found_length = field_length(heading.found);
     let count_length = field_length(heading.count);
-    2 + n_length + m_length + k_length + found_length + count_length + spans_length(block)
+    let lines_length = spans_length(block, heading.n as usize);
+    2 + n_length + m_length + k_length + found_length + count_length + lines_length
 }
 
 // Writes the `H` line to the front of a buffer; the answer is the offset behind it.
@@ -73,11 +75,11 @@ fn put_heading(out: &mut [u8], heading: Heading) -> usize
 
 // Writes a listing to the front of a buffer, and leaves the rest.
 pub fn write(heading: Heading, block: &[u64], out: &mut [u8])
-    requires { ⌜ length (now block) ≤ 1024 ⌝ }
+    requires { ⌜ Lies (blockAt 0 (heading .n)) (length (now block)) ⌝ }
     requires { ⌜ length (listing heading (now block)) ≤ length (now out) ⌝ }
     ensures { λ _. ⌜ now (out .exit)
         ≡ listing heading (now (block .entry)) ++ drop (length (listing heading (now (block .entry)))) (now (out .entry)) ⌝ }
 {
     let head = put_heading(out, heading);
-    write_spans(block, out, head);
+    write_spans(block, heading.n as usize, out, head);
 }

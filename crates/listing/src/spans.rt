@@ -1,98 +1,88 @@
-// The `S` lines of a block: one for each position whose bit is 1, measured and written.
+// The `S` lines of a block: one for each span whose bit is 1, row by row, measured and written.
 use crate::fields::field_length;
 use crate::fields::put_line;
+use table::Block;
 ghost use mathlib.Core.Path.{_≡_};
-ghost use Prim.Native.Nat.{_+_, _*_, _≤_, _<_};
+ghost use Prim.Native.Nat.{_+_, _*_, _≤_};
 ghost use lib.ListN.{length};
-ghost use Rattle.listing.specs.Marked.{linesFrom};
+ghost use Rattle.bits.specs.Bit.{bitAt};
+ghost use Rattle.table.specs.Layout.{blockAt, Lies};
+ghost use Rattle.listing.specs.Marked.{marks, rowLines, blockLines, Next};
 ghost use Rattle.listing.specs.Written.{Written};
 
-// The line of position p of the block, if its bit is 1.
-fn write_position(block: &[u64], p: usize, out: &mut [u8], at: usize) -> usize
-    requires { ⌜ p < 64 * length (now block) ⌝ }
-    requires { ⌜ at + length (linesFrom (now block) 1 p) ≤ length (now out) ⌝ }
-    ensures { λ r. ⌜ Written (now (out .entry)) at (linesFrom (now (block .entry)) 1 p) (now (out .exit)) r ⌝ }
+// The first end from `from` to n whose bit is 1 in a row, or a number beyond n. A number of the row that has no such bit is passed at once.
+fn next_end(row: &[u64], from: usize, n: usize) -> usize
+    requires { ⌜ (length (now row) ≡ 4) × (from ≤ 256) × (n ≤ 255) ⌝ }
+    ensures { λ r. ⌜ Next (bitAt (now (row .entry))) from n r ⌝ }
 {
-    if bits::test(block, p) {
-        return put_line(out, at, b'S', (p / 256) as u64, (p % 256) as u64);
+    let mut j = from;
+    while j <= n {
+        let first = 64 * (j / 64);
+        let b = bits::first(row[j / 64], bits::one(j % 64) - 1);
+        if b < 64 {
+            return first + b;
+        }
+        j = first + 64;
     }
-    at
+    j
 }
 
-// The lines of number q of the block; where it is 0, none of its bits is looked at.
-fn write_number(block: &[u64], q: usize, out: &mut [u8], at: usize) -> usize
-    requires { ⌜ (q < length (now block)) × (length (now block) ≤ 1024) ⌝ }
-    requires { ⌜ at + length (linesFrom (now block) 64 (64 * q)) ≤ length (now out) ⌝ }
-    ensures { λ r. ⌜ Written (now (out .entry)) at (linesFrom (now (block .entry)) 64 (64 * q)) (now (out .exit)) r ⌝ }
+// The length of the lines of a row.
+fn row_length(row: &[u64], i: usize, n: usize) -> usize
+    requires { ⌜ (length (now row) ≡ 4) × (i ≤ n) × (n ≤ 255) ⌝ }
+    ensures { λ r. ⌜ (r ≡ length (rowLines (bitAt (now (row .entry))) i n i)) × (r ≤ 44 * 256) ⌝ }
 {
-    if block[q] == 0 {
-        return at;
-    }
-    let first = 64 * q;
-    let mut end = at;
-    let mut b = 0;
-    while b < 64 {
-        end = write_position(block, first + b, out, end);
-        b += 1;
-    }
-    end
-}
-
-// The lines of the block.
-pub fn write_spans(block: &[u64], out: &mut [u8], at: usize) -> usize
-    requires { ⌜ length (now block) ≤ 1024 ⌝ }
-    requires { ⌜ at + length (linesFrom (now block) (64 * length (now block)) 0) ≤ length (now out) ⌝ }
-    ensures { λ r. ⌜ Written (now (out .entry)) at (linesFrom (now (block .entry)) (64 * length (now (block .entry))) 0)
-        (now (out .exit)) r ⌝ }
-{
-    let mut end = at;
-    let mut q = 0;
-    while q < block.len() {
-        end = write_number(block, q, out, end);
-        q += 1;
-    }
-    end
-}
-
-// The length of the line of position p of the block, if its bit is 1.
-fn position_length(block: &[u64], p: usize) -> usize
-    requires { ⌜ p < 64 * length (now block) ⌝ }
-    ensures { λ r. ⌜ (r ≡ length (linesFrom (now (block .entry)) 1 p)) × (r ≤ 44) ⌝ }
-{
-    if bits::test(block, p) {
-        return 2 + field_length((p / 256) as u64) + field_length((p % 256) as u64);
-    }
-    0
-}
-
-// The length of the lines of number q of the block.
-fn number_length(block: &[u64], q: usize) -> usize
-    requires { ⌜ (q < length (now block)) × (length (now block) ≤ 1024) ⌝ }
-    ensures { λ r. ⌜ (r ≡ length (linesFrom (now (block .entry)) 64 (64 * q))) × (r ≤ 44 * 64) ⌝ }
-{
-    if block[q] == 0 {
-        return 0;
-    }
-    let first = 64 * q;
     let mut sum = 0;
-    let mut b = 0;
-    while b < 64 {
-        sum += position_length(block, first + b);
-        b += 1;
+    let mut j = next_end(row, i, n);
+    while j <= n {
+        sum += 2 + field_length(i as u64) + field_length(j as u64);
+        j = next_end(row, j + 1, n);
     }
     sum
 }
 
-// The length of the lines of the block.
-pub fn spans_length(block: &[u64]) -> usize
-    requires { ⌜ length (now block) ≤ 1024 ⌝ }
-    ensures { λ r. ⌜ (r ≡ length (linesFrom (now (block .entry)) (64 * length (now (block .entry))) 0)) × (r ≤ 44 * 65536) ⌝ }
+// The length of the lines of a block for n events.
+pub fn spans_length(block: &[u64], n: usize) -> usize
+    requires { ⌜ Lies (blockAt 0 n) (length (now block)) ⌝ }
+    ensures { λ r. ⌜ (r ≡ length (blockLines (marks n (now (block .entry))) n 0)) × (r ≤ 44 * 65536) ⌝ }
 {
     let mut sum = 0;
-    let mut q = 0;
-    while q < block.len() {
-        sum += number_length(block, q);
-        q += 1;
+    let mut i = 0;
+    while i <= n {
+        let row = table::read_row(block, Block { first: 0, n: n }, i);
+        sum += row_length(&row, i, n);
+        i += 1;
     }
     sum
+}
+
+// Writes the lines of a row; the answer is the offset behind them.
+fn write_row(row: &[u64], i: usize, n: usize, out: &mut [u8], at: usize) -> usize
+    requires { ⌜ (length (now row) ≡ 4) × (i ≤ n) × (n ≤ 255) ⌝ }
+    requires { ⌜ at + length (rowLines (bitAt (now row)) i n i) ≤ length (now out) ⌝ }
+    ensures { λ r. ⌜ Written (now (out .entry)) at (rowLines (bitAt (now (row .entry))) i n i) (now (out .exit)) r ⌝ }
+{
+    let mut end = at;
+    let mut j = next_end(row, i, n);
+    while j <= n {
+        end = put_line(out, end, b'S', i as u64, j as u64);
+        j = next_end(row, j + 1, n);
+    }
+    end
+}
+
+// Writes the lines of a block for n events; the answer is the offset behind them.
+pub fn write_spans(block: &[u64], n: usize, out: &mut [u8], at: usize) -> usize
+    requires { ⌜ Lies (blockAt 0 n) (length (now block)) ⌝ }
+    requires { ⌜ at + length (blockLines (marks n (now block)) n 0) ≤ length (now out) ⌝ }
+    ensures { λ r. ⌜ Written (now (out .entry)) at (blockLines (marks n (now (block .entry))) n 0) (now (out .exit)) r ⌝ }
+{
+    let mut end = at;
+    let mut i = 0;
+    while i <= n {
+        let row = table::read_row(block, Block { first: 0, n: n }, i);
+        end = write_row(&row, i, n, out, end);
+        i += 1;
+    }
+    end
 }

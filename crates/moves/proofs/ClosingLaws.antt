@@ -1,6 +1,6 @@
 -- The closure of the free moves: each row is completed by following its states. Assumes nothing.
 use mathlib.Core.Path.{_≡_, refl, sym, _∙_}
-use mathlib.Core.Bool.{true, false, false≢true}
+use mathlib.Core.Bool.{true, false≢true}
 use mathlib.Core.Logic.{_⊎_, inl, inr, ⊎-elim}
 use mathlib.Core.List.{List}
 use Prim.Native.Nat.{ℕ, _+_, _-_, _*_, _/_, _%_, _≤_, _<_}
@@ -12,11 +12,11 @@ use Rattle.bits.proofs.Laws.{put-adds, adds-none, adds-then, adds-as, zeros-bit
 use Rattle.bits.proofs.Tally.{left-less}
 use Rattle.moves.specs.Reached.{start, after}
 use Rattle.moves.specs.Moves.{FreeMove, Leads, Closed}
-use Rattle.moves.specs.Closing.{NextState, Through, Settled, Completed, Same, LeaveBelow}
+use Rattle.moves.specs.Closing.{NextState, Through, Followed, Completed, OnDiagonal, LeaveBelow}
 use Rattle.moves.proofs.Paths.{leads-on, leads-nowhere}
 use Rattle.moves.proofs.RowLaws.{low-bit, high-bit, row-low, row-high, by-half, row-merged}
 
--- ---- a state of a row that is not done
+-- ---- a state of a row that is not followed yet
 
 module _ (c : List ℕ) (s : ℕ) (d : List ℕ) (low : ℕ) (f : First (getD c (2 * s) 0) (getD d 0 0) low) where
   pub next-low : low < 64 → NextState c s d low
@@ -39,7 +39,7 @@ module _ (c : List ℕ) (s : ℕ) (d : List ℕ) (low : ℕ) (f : First (getD c 
             (λ t l h. high-bit d t l ∙ g .below t (omega arith) (sym (row-high c s t l) ∙ h));
       }
 
--- what is left of the states shrinks where one is done that was not
+-- what is left of the states shrinks where one is followed that was not
 pub next-less : {c d e : List ℕ} {s r : ℕ} {P : ℕ → Type 0} → NextState c s d r → (r ≡ 128 → ⊥) → Adds d P e → P r
     → 128 - tallyBelow 128 (bitAt e) < 128 - tallyBelow 128 (bitAt d)
 next-less {d = d} {e = e} {r = r} n more f p =
@@ -53,15 +53,15 @@ pub through-law : {a b c : List ℕ} (s k : ℕ)
     → Merged a (2 * s) (getD a (2 * k) 0) b → Merged b (2 * s + 1) (getD a (2 * k + 1) 0) c → Adds a (Through a s k) c
 through-law {a} s k f g = adds-as (λ q u. record { row = u .0; second = u .1 }) (λ q u. (u .row, u .second)) (row-merged a s k f g)
 
--- ---- states that are done
+-- ---- states that are followed
 
-pub settled-late : {a b c : List ℕ} {s k : ℕ} → s ≤ k → Put a k b → Adds a (Settled c s k) b
-settled-late {k = k} l p =
+pub followed-late : {a b c : List ℕ} {s k : ℕ} → s ≤ k → Put a k b → Adds a (Followed c s k) b
+followed-late {k = k} l p =
     adds-as (λ q (e : q ≡ k). inl e) (λ q. ⊎-elim (λ (e : q ≡ k). e) (λ u. let v = u .0 in absurd (omega arith))) (put-adds p)
 
-pub settled-early : (c : List ℕ) {a b d e : List ℕ} {s k : ℕ} → k < s → Put a k b
-    → Merged b 0 (getD c (2 * k) 0) d → Merged d 1 (getD c (2 * k + 1) 0) e → Adds a (Settled c s k) e
-settled-early c {s = s} {k} l p f g =
+pub followed-early : (c : List ℕ) {a b d e : List ℕ} {s k : ℕ} → k < s → Put a k b
+    → Merged b 0 (getD c (2 * k) 0) d → Merged d 1 (getD c (2 * k + 1) 0) e → Adds a (Followed c s k) e
+followed-early c {s = s} {k} l p f g =
     adds-as
     (λ q.
     ⊎-elim (λ (e : q ≡ k). inl e)
@@ -71,14 +71,14 @@ settled-early c {s = s} {k} l p f g =
 
 -- ---- the diagonal
 
-pub same-none : (a : List ℕ) → Adds a (Same 0) a
-same-none a = adds-none a _ (λ q u. let r = u .row in omega arith)
+pub diagonal-none : (a : List ℕ) → Adds a (OnDiagonal 0) a
+diagonal-none a = adds-none a _ (λ q u. let r = u .row in omega arith)
 
-pub same-turn : {a b c : List ℕ} (s : ℕ) → s < 128 → Adds a (Same s) b → Put b (129 * s) c → Adds a (Same (s + 1)) c
-same-turn s l f g =
+pub diagonal-turn : {a b c : List ℕ} (s : ℕ) → s < 128 → Adds a (OnDiagonal s) b → Put b (129 * s) c → Adds a (OnDiagonal (s + 1)) c
+diagonal-turn s l f g =
     adds-as
     (λ q.
-    ⊎-elim (λ (v : Same s q). let r = v .row in record { row = omega arith; same = v .same })
+    ⊎-elim (λ (v : OnDiagonal s q). let r = v .row in record { row = omega arith; same = v .same })
     (λ (v : q ≡ 129 * s). record { row = omega arith; same = omega arith }))
     (λ q u.
     let r = u .row in
@@ -88,16 +88,16 @@ same-turn s l f g =
 
 -- ---- one row
 
--- row s is being completed: it has what moves lead to from the states that are done
-pub record Completing (m : List ℕ) (s : ℕ) (c done : List ℕ) : Type 0 where
+-- row s is being completed: it has what moves lead to from the states that are followed
+pub record Completing (m : List ℕ) (s : ℕ) (c followed : List ℕ) : Type 0 where
   pub rows : Completed m s c
-  pub settled : (k t : ℕ) → bitAt done k ≡ true → FreeMove m k t → bitAt c (128 * s + t) ≡ true
+  pub onward : (k t : ℕ) → bitAt followed k ≡ true → FreeMove m k t → bitAt c (128 * s + t) ≡ true
 
 pub completing-start : (m : List ℕ) (s : ℕ) (c : List ℕ) → Completed m s c → Completing m s c (replicate 2 0)
-completing-start m s c f = record { rows = f; settled = λ k t e. absurd (false≢true (sym (zeros-bit 2 k) ∙ e)) }
+completing-start m s c f = record { rows = f; onward = λ k t e. absurd (false≢true (sym (zeros-bit 2 k) ∙ e)) }
 
 module _ {m : List ℕ} {s k : ℕ} {b c d e : List ℕ} (small : s < 128) (i : Completing m s b d) (n : NextState b s d k) (more : k ≡ 128 → ⊥)
-    (f : Adds b (Through b s k) c) (g : Adds d (Settled c s k) e) where
+    (f : Adds b (Through b s k) c) (g : Adds d (Followed c s k) e) where
   state : k < 128
   state = let w = n .within in omega arith
 
@@ -141,8 +141,8 @@ module _ {m : List ℕ} {s k : ℕ} {b c d e : List ℕ} (small : s < 128) (i : 
   pub completing-turn : Completing m s c e
   completing-turn = record {
     rows = rows-on;
-    settled = λ u t h x.
-        ⊎-elim (λ (y : bitAt d u ≡ true). f .old (128 * s + t) (i .settled u t y x))
+    onward = λ u t h x.
+        ⊎-elim (λ (y : bitAt d u ≡ true). f .old (128 * s + t) (i .onward u t y x))
         (⊎-elim (λ (y : u ≡ k). joined t (x .to) (i .rows .has (128 * k + t) (rw y at (x .move))))
         (λ (y : (k < s) × Through c 0 k u).
         let z = y .1 .row in
@@ -160,19 +160,19 @@ completing-done {m} {s} {k} {c} {d} i n e = record {
       ⊎-elim (λ (y : r < s). i .rows .complete r u t y x h)
       (λ (y : s ≤ r).
       let z : r ≡ s = omega arith in
-      rw z (i .settled u t (n .none e u (x .from) (rw z at h)) x))
+      rw z (i .onward u t (n .none e u (x .from) (rw z at h)) x))
       (below-or-not r s);
 }
 
 -- ---- all rows
 
-pub completed-start : {m c : List ℕ} → Adds m (Same 128) c → Completed m 0 c
+pub completed-start : {m c : List ℕ} → Adds m (OnDiagonal 128) c → Completed m 0 c
 completed-start {m} {c} f = record {
   has = f .old;
   self = λ s l. f .new (128 * s + s) record { row = omega arith; same = omega arith };
   only = λ s t l k e.
       ⊎-elim (λ (x : bitAt m (128 * s + t) ≡ true). after (start refl) record { from = l; to = k; move = x })
-      (λ (x : Same 128 (128 * s + t)). let r = x .same in start (omega arith))
+      (λ (x : OnDiagonal 128 (128 * s + t)). let r = x .same in start (omega arith))
       (f .only (128 * s + t) e);
   complete = λ r k t l. absurd (omega arith);
 }

@@ -1,7 +1,7 @@
 -- The free moves and the entries of a rule, record by record. Assumes nothing.
 use mathlib.Core.Path.{_≡_, sym, ap, _∙_}
 use mathlib.Core.Bool.{Bool, true, false, false≢true}
-use mathlib.Core.Logic.{inl, inr, ⊎-elim}
+use mathlib.Core.Logic.{_⊎_, inl, inr, ⊎-elim}
 use mathlib.Core.List.{List}
 use Prim.Native.Nat.{ℕ, _+_, _*_, _/_, _%_, _≤_, _<_}
 use native.Mathlib.Omega.{arith}
@@ -12,7 +12,8 @@ use Rattle.bits.proofs.Laws.{put-adds, adds-none, adds-then, adds-as, zeros-bit
 use Rattle.regex.specs.declared.Kind.{Kind}
 use Rattle.regex.specs.declared.Kind.the-variants.{Empty, Epsilon, Letter, Union, Intersection, Concatenation, Complement, Star}
 use Rattle.regex.specs.declared.Node.{Node}
-use Rattle.moves.specs.Moves.{kindAt, specialKind, Placed, KindMove, RecordMove, KindLetter, LetterEntry, KindSpecial, SpecialEntry}
+use Rattle.moves.specs.Moves.{kindAt, specialKind, NotFirst, SidesBefore, KindMove, RecordMove, KindLetter, LetterEntry, KindSpecial}
+use Rattle.moves.specs.Moves.{SpecialEntry}
 use Rattle.moves.specs.Closing.{LeaveBelow}
 
 -- ---- one node's entries
@@ -43,6 +44,10 @@ special-put i s p = adds-as (λ q e. record { entry = e; special = s }) (λ q u.
 
 pub special-none : (a : List ℕ) (k : Kind) (i : ℕ) → specialKind k ≡ false → Adds a (KindSpecial k i) a
 special-none a k i n = adds-none a _ (λ q u. false≢true (sym n ∙ u .special))
+
+-- what is added twice is added
+pub adds-once : {a b : List ℕ} {P Q : ℕ → Type 0} → Adds a (λ (q : ℕ). P q ⊎ (P q ⊎ Q q)) b → Adds a (λ (q : ℕ). P q ⊎ Q q) b
+adds-once h = adds-as (λ q u. ⊎-elim (λ e. inl e) (λ v. v) u) (λ q u. inr u) h
 
 module _ (nodes : List Node) where
   -- ---- moves, node by node
@@ -120,7 +125,7 @@ module _ (nodes : List Node) where
 -- ---- which states moves leave
 
 -- the free moves that node i brings leave states up to its exit
-kind-low : (k : Kind) (i l s t : ℕ) → i < 64 → l ≤ i → t < 128 → Placed k i → KindMove k i l (128 * s + t) → s ≤ 2 * i + 1
+kind-low : (k : Kind) (i l s t : ℕ) → i < 64 → l ≤ i → t < 128 → NotFirst k i → KindMove k i l (128 * s + t) → s ≤ 2 * i + 1
 kind-low Empty i l s t h o v p u = absurd u
 kind-low Epsilon i l s t h o v p u = omega arith
 kind-low (Letter c) i l s t h o v p u = absurd u
@@ -139,8 +144,7 @@ kind-low Star i l s t h o v p (inr (inr (inl u))) = omega arith
 kind-low Star i l s t h o v p (inr (inr (inr u))) = omega arith
 
 pub moves-low : {nodes : List Node} {lefts moves : List ℕ} {m : ℕ} → m ≤ 64
-    → ((i : ℕ) → i < m → (getD lefts i 0 ≤ i) × Placed (kindAt nodes i) i)
-    → Adds (replicate 256 0) (RecordMove nodes lefts m) moves → LeaveBelow (2 * m) moves
+    → SidesBefore nodes lefts m → Adds (replicate 256 0) (RecordMove nodes lefts m) moves → LeaveBelow (2 * m) moves
 moves-low {nodes} {lefts} {moves} {m} few sides f s t v e =
     ⊎-elim (λ (z : bitAt (replicate 256 0) (128 * s + t) ≡ true). absurd (false≢true (sym (zeros-bit 256 (128 * s + t)) ∙ z)))
     (λ (u : RecordMove nodes lefts m (128 * s + t)).

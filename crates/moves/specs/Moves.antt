@@ -1,6 +1,6 @@
 -- The free moves of a rule's states, and the entries of its letters and of its special nodes, all as bits. Node i has the entry 2 * i
 -- and the exit 2 * i + 1; its last side is node i - 1, and l is its first side where it has two. Assumes nothing.
-use Prim.Native.Nat.{ℕ, _+_, _-_, _*_, _/_, _%_, _<_}
+use Prim.Native.Nat.{ℕ, _+_, _-_, _*_, _/_, _%_, _<_, _≤_}
 use mathlib.Core.Path.{_≡_}
 use mathlib.Core.Logic.{_⊎_}
 use mathlib.Core.List.{List}
@@ -32,15 +32,19 @@ specialKind Complement = true
 specialKind Star = false
 
 -- a node with sides is not the first record
-abbrev pub Placed : Kind → ℕ → Type 0
-Placed Empty i = Unit
-Placed Epsilon i = Unit
-Placed (Letter c) i = Unit
-Placed Union i = 0 < i
-Placed Intersection i = 0 < i
-Placed Concatenation i = 0 < i
-Placed Complement i = 0 < i
-Placed Star i = 0 < i
+abbrev pub NotFirst : Kind → ℕ → Type 0
+NotFirst Empty i = Unit
+NotFirst Epsilon i = Unit
+NotFirst (Letter c) i = Unit
+NotFirst Union i = 0 < i
+NotFirst Intersection i = 0 < i
+NotFirst Concatenation i = 0 < i
+NotFirst Complement i = 0 < i
+NotFirst Star i = 0 < i
+
+-- none of the first m nodes stands before its first side, and none with sides is the first record
+abbrev pub SidesBefore : (nodes : List Node) (lefts : List ℕ) (m : ℕ) → Type 0
+SidesBefore nodes lefts m = (i : ℕ) → i < m → (getD lefts i 0 ≤ i) × NotFirst (kindAt nodes i) i
 
 -- ---- single moves
 
@@ -48,18 +52,21 @@ Placed Star i = 0 < i
 abbrev pub Move : (s t p : ℕ) → Type 0
 Move s t p = p ≡ 128 * s + t
 
+-- p is the bit of a move of a node with sides, whose entry is e: from it to x or y, from the exit f of a side to z, or from the exit of its
+-- last side to its own
+abbrev pub SidedMove : (e x y f z p : ℕ) → Type 0
+SidedMove e x y f z p = Move e x p ⊎ (Move e y p ⊎ (Move f z p ⊎ Move (e - 1) (e + 1) p))
+
 -- p is the bit of a free move that node i brings by its kind
 abbrev pub KindMove : Kind → (i l p : ℕ) → Type 0
 KindMove Empty i l p = ⊥
 KindMove Epsilon i l p = Move (2 * i) (2 * i + 1) p
 KindMove (Letter c) i l p = ⊥
-KindMove Union i l p =
-    Move (2 * i) (2 * l) p ⊎ (Move (2 * i) (2 * i - 2) p ⊎ (Move (2 * l + 1) (2 * i + 1) p ⊎ Move (2 * i - 1) (2 * i + 1) p))
+KindMove Union i l p = SidedMove (2 * i) (2 * l) (2 * i - 2) (2 * l + 1) (2 * i + 1) p
 KindMove Intersection i l p = ⊥
 KindMove Concatenation i l p = Move (2 * i) (2 * l) p ⊎ (Move (2 * l + 1) (2 * i - 2) p ⊎ Move (2 * i - 1) (2 * i + 1) p)
 KindMove Complement i l p = ⊥
-KindMove Star i l p =
-    Move (2 * i) (2 * i - 2) p ⊎ (Move (2 * i) (2 * i + 1) p ⊎ (Move (2 * i - 1) (2 * i - 2) p ⊎ Move (2 * i - 1) (2 * i + 1) p))
+KindMove Star i l p = SidedMove (2 * i) (2 * i - 2) (2 * i + 1) (2 * i - 1) (2 * i - 2) p
 
 -- p is the bit of a free move that one of the first m nodes brings
 pub record RecordMove (nodes : List Node) (lefts : List ℕ) (m p : ℕ) : Type 0 where

@@ -5,18 +5,18 @@ ghost use Prim.Native.Nat.{ℕ, _+_, _<_, _≤_};
 ghost use lib.ListN.{length};
 ghost use Rattle.bits.specs.Bit.{Adds};
 ghost use Rattle.moves.specs.Moves.{Closed};
-ghost use Rattle.moves.specs.Closing.{NextState, Through, Settled, Completed, Same, LeaveBelow};
+ghost use Rattle.moves.specs.Closing.{NextState, Through, Followed, Completed, OnDiagonal, LeaveBelow};
 
-// The first state of row s that is not done; 128 where there is none.
-fn next_state(c: &[u64], s: usize, done: &[u64]) -> usize
-    requires { ⌜ (length (now c) ≡ 256) × (s < 128) × (length (now done) ≡ 2) ⌝ }
-    ensures { λ r. ⌜ NextState (now (c .entry)) s (now (done .entry)) r ⌝ }
+// The first state of row s that is not followed yet; 128 where there is none.
+fn next_state(c: &[u64], s: usize, followed: &[u64]) -> usize
+    requires { ⌜ (length (now c) ≡ 256) × (s < 128) × (length (now followed) ≡ 2) ⌝ }
+    ensures { λ r. ⌜ NextState (now (c .entry)) s (now (followed .entry)) r ⌝ }
 {
-    let x = bits::first(c[2 * s], done[0]);
+    let x = bits::first(c[2 * s], followed[0]);
     if x < 64 {
         return x;
     }
-    64 + bits::first(c[2 * s + 1], done[1])
+    64 + bits::first(c[2 * s + 1], followed[1])
 }
 
 // Merges row k into row s.
@@ -30,17 +30,17 @@ fn merge_row(c: &mut [u64], s: usize, k: usize)
     bits::merge(c, 2 * s + 1, high);
 }
 
-// Tells that row s has what k leads to: k is done, and, as rows before s are complete, with a row before s all its states are.
-fn settle(c: &[u64], s: usize, k: usize, done: &mut [u64])
-    requires { ⌜ (length (now c) ≡ 256) × (length (now done) ≡ 2) × (k < 128) ⌝ }
-    ensures { λ _. ⌜ Adds (now (done .entry)) (Settled (now (c .entry)) s k) (now (done .exit)) ⌝ }
+// Marks that row s has what k leads to: k is followed, and, as the rows before s are complete, with a row before s all its states are.
+fn mark_followed(c: &[u64], s: usize, k: usize, followed: &mut [u64])
+    requires { ⌜ (length (now c) ≡ 256) × (length (now followed) ≡ 2) × (k < 128) ⌝ }
+    ensures { λ _. ⌜ Adds (now (followed .entry)) (Followed (now (c .entry)) s k) (now (followed .exit)) ⌝ }
 {
-    bits::put_in_two(done, k);
+    bits::put_in_two(followed, k);
     if s <= k {
         return;
     }
-    bits::merge(done, 0, c[2 * k]);
-    bits::merge(done, 1, c[2 * k + 1]);
+    bits::merge(followed, 0, c[2 * k]);
+    bits::merge(followed, 1, c[2 * k + 1]);
 }
 
 // Completes row s, where the rows before it are complete: the states that it has are followed until they lead to no other.
@@ -48,21 +48,21 @@ fn complete(c: &mut [u64], s: usize)
     requires { ⌜ (length (now c) ≡ 256) × (s < 128) ⌝ }
     ensures { λ _. ⌜ ((m : List ℕ) → Completed m s (now (c .entry)) → Completed m (s + 1) (now (c .exit))) ⌝ }
 {
-    let mut done = [0u64; 2];
+    let mut followed = [0u64; 2];
     loop {
-        let k = next_state(c, s, &done);
+        let k = next_state(c, s, &followed);
         if k == 128 {
             return;
         }
         merge_row(c, s, k);
-        settle(c, s, k, &mut done);
+        mark_followed(c, s, k, &mut followed);
     }
 }
 
 // Pairs each state with itself.
 fn diagonal(c: &mut [u64])
     requires { ⌜ length (now c) ≡ 256 ⌝ }
-    ensures { λ _. ⌜ Adds (now (c .entry)) (Same 128) (now (c .exit)) ⌝ }
+    ensures { λ _. ⌜ Adds (now (c .entry)) (OnDiagonal 128) (now (c .exit)) ⌝ }
 {
     let mut s = 0;
     while s < 128 {

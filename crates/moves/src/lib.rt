@@ -6,14 +6,14 @@ mod free;
 use closure::close;
 use entries::add_letter;
 use entries::add_special;
-use free::free_moves;
+use free::add_moves;
 use regex::Kind;
 use regex::Node;
 ghost use mathlib.Core.Path.{_≡_};
-ghost use Prim.Native.Nat.{ℕ, _<_, _≤_};
-ghost use lib.ListN.{getD, replicate};
+ghost use Prim.Native.Nat.{_≤_};
+ghost use lib.ListN.{length, replicate};
 ghost use Rattle.bits.specs.Bit.{Adds};
-ghost use Rattle.moves.specs.Moves.{specialKind, kindAt, Placed, ClosedMoves, LetterEntry, SpecialEntry};
+ghost use Rattle.moves.specs.Moves.{specialKind, SidesBefore, ClosedMoves, LetterEntry, SpecialEntry};
 
 // Whether a walk passes a node of this kind by the span table alone.
 pub fn is_special(k: Kind) -> bool
@@ -31,45 +31,41 @@ pub fn is_special(k: Kind) -> bool
     }
 }
 
-// Where free moves lead, for a rule with m nodes whose first sides are in lefts: bit 128 * s + t if they lead from state s to state t.
-pub fn closed_moves(nodes: [Node; 64], m: usize, lefts: [usize; 64]) -> [u64; 256]
-    requires { ⌜ m ≤ 64 ⌝ }
-    requires { ⌜ ((i : ℕ) → i < m → (getD lefts i 0 ≤ i) × Placed (kindAt nodes i) i) ⌝ }
-    ensures { λ r. ⌜ ClosedMoves nodes lefts m r ⌝ }
+// Fills a cleared run with where free moves lead, for a rule with m nodes whose first sides are in lefts: bit 128 * s + t if they lead
+// from state s to state t.
+pub fn closed_moves(nodes: [Node; 64], m: usize, lefts: [usize; 64], moves: &mut [u64])
+    requires { ⌜ (m ≤ 64) × (now moves ≡ replicate 256 0) ⌝ }
+    requires { ⌜ SidesBefore nodes lefts m ⌝ }
+    ensures { λ _. ⌜ ClosedMoves nodes lefts m (now (moves .exit)) ⌝ }
 {
-    let mut moves = free_moves(nodes, m, lefts);
-    close(&mut moves, 2 * m);
-    moves
+    add_moves(nodes, m, lefts, moves);
+    close(moves, 2 * m);
 }
 
-// The entries of each letter's nodes: bit 128 * c + s for the entry s of a node with the letter c.
-pub fn letter_entries(nodes: [Node; 64], m: usize) -> [u64; 512]
-    requires { ⌜ m ≤ 64 ⌝ }
-    ensures { λ r. ⌜ Adds (replicate 512 0) (LetterEntry nodes m) r ⌝ }
+// Adds the entries of each letter's nodes: bit 128 * c + s for the entry s of a node with the letter c.
+pub fn letter_entries(nodes: [Node; 64], m: usize, entries: &mut [u64])
+    requires { ⌜ (m ≤ 64) × (length (now entries) ≡ 512) ⌝ }
+    ensures { λ _. ⌜ Adds (now (entries .entry)) (LetterEntry nodes m) (now (entries .exit)) ⌝ }
 {
-    let mut entries = [0u64; 512];
     let mut i = 0;
     while i < m {
         let node = nodes[i];
         let k = node.kind;
-        add_letter(&mut entries, k, i);
+        add_letter(entries, k, i);
         i += 1;
     }
-    entries
 }
 
-// The entries of the special nodes: bit s for the entry s of one.
-pub fn special_entries(nodes: [Node; 64], m: usize) -> [u64; 2]
-    requires { ⌜ m ≤ 64 ⌝ }
-    ensures { λ r. ⌜ Adds (replicate 2 0) (SpecialEntry nodes m) r ⌝ }
+// Adds the entries of the special nodes: bit s for the entry s of one.
+pub fn special_entries(nodes: [Node; 64], m: usize, entries: &mut [u64])
+    requires { ⌜ (m ≤ 64) × (length (now entries) ≡ 2) ⌝ }
+    ensures { λ _. ⌜ Adds (now (entries .entry)) (SpecialEntry nodes m) (now (entries .exit)) ⌝ }
 {
-    let mut entries = [0u64; 2];
     let mut i = 0;
     while i < m {
         let node = nodes[i];
         let k = node.kind;
-        add_special(&mut entries, k, i);
+        add_special(entries, k, i);
         i += 1;
     }
-    entries
 }

@@ -13,7 +13,7 @@ use Rattle.bits.specs.Bit.{bitAt, indicator, tallyBelow}
 use Rattle.bits.proofs.Digits.{same-or-not}
 use Rattle.bits.proofs.Tally.{tally-more}
 use Rattle.event.proofs.Tests.{T-of, of-T}
-use Rattle.rows.specs.Row.{sumBelow, visits}
+use Rattle.walk.specs.Filled.{sumBelow, visits}
 use Rattle.work.specs.Walk.{Owner, Visit}
 use Rattle.work.specs.SizeOf.{SizeOf}
 use Rattle.work.specs.Count.{sumTo}

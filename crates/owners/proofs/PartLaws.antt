@@ -182,14 +182,6 @@ headed t y h =
       root = s .root ∙ ap (λ (u : Tree). s .first + below u) e;
     }
 
--- a record of a part heads a part of it, which has room for its own records
-pub headed-within : {t u : Tree} {x : ℕ} (y : ℕ) → Part t 0 u x → x ≤ y → y < x + size u → x + below (partAt t y) ≤ y
-headed-within {t} {u} {x} y p h k =
-    let s = sited u x y h k in
-    let e : partAt t y ≡ s .part = ap (partAt t) (s .root) ∙ part-at (part-part p (s .within)) in
-    let d : below (partAt t y) ≡ below (s .part) = ap below e in
-    omega (arith, d, s .root, part-range (s .within))
-
 -- ---- what the records say of the parts
 module _ {t : Tree} {nodes : List Node} {m : ℕ} (r : Recorded t nodes m) where
   node-is : (y : ℕ) → y < m → getD nodes y noNode ≡ nodeOf (partAt t y)

@@ -1,4 +1,4 @@
--- A step over the arrays is a move of the rule, or several free ones; and each move is a step. Assumes nothing.
+-- A step of the automaton is a move of the rule, or several free ones; and each move is a step. Assumes nothing.
 use mathlib.Core.Path.{_≡_, refl, sym, ap, _∙_, subst}
 use mathlib.Core.Bool.{true, false≢true}
 use mathlib.Core.Logic.{inl, inr, ⊎-elim}
@@ -16,22 +16,23 @@ use Rattle.regex.specs.declared.Node.{Node}
 use Rattle.regex.specs.Tree.{Tree, empty, epsilon, letter, union, intersection, concatenation, complement, star, below, isSpecial}
 use Rattle.moves.specs.Reached.{start, after}
 use Rattle.moves.specs.Moves.{kindAt, specialKind, KindMove, RecordMove, FreeMove}
-use Rattle.walk.specs.Automaton.{automaton, Step, LetterStep, SpanStep}
+use Rattle.table.proofs.LayoutLaws.{held-span}
+use Rattle.levels.specs.Parts.{letterPart, specialPart, firstPart}
+use Rattle.walk.specs.Automaton.{automatonOf, Step, LetterStep, SpanStep}
 use Rattle.work.specs.Span.{Obeys}
 use Rattle.work.specs.Walk.{entry, exit, Part, NodeMove, epsilon-through, letter-use, union-to-left, union-to-right, union-left-out}
 use Rattle.work.specs.Walk.{union-right-out}
 use Rattle.work.specs.Walk.{concatenation-in, concatenation-over, concatenation-out, star-in, star-skip, star-again, star-out}
 use Rattle.work.specs.Walk.{intersection-span}
 use Rattle.work.specs.Walk.{complement-span, RuleMove}
-use Rattle.work.specs.Table.{obeys}
+use Rattle.work.specs.Table.{obeys, HoldsBlock}
 use Rattle.work.proofs.TableLaws.{obeys-eq}
 use Rattle.owners.specs.Filling.{Recorded}
-use Rattle.owners.specs.Parts.{partAt}
+use Rattle.owners.specs.Parts.{partAt, SpecialAt}
 use Rattle.owners.specs.Sides.{Left}
-use Rattle.owners.specs.Blocks.{firstRow}
-use Rattle.owners.specs.Turns.{BlocksBelow, Setting}
-use Rattle.owners.proofs.PartLaws.{kindOf, Headed, headed, kind-is, special-is, part-within, part-kind, special-kind}
-use Rattle.owners.proofs.BlockLaws.{row-of}
+use Rattle.owners.specs.Blocks.{BlocksBelow}
+use Rattle.owners.specs.Turns.{Setting}
+use Rattle.owners.proofs.PartLaws.{kindOf, part-at, Headed, headed, kind-is, special-is, part-within, part-kind, special-kind}
 
 -- a run that began as zeros has only what was added
 pub added : {P : ℕ → Type 0} {b : List ℕ} (n q : ℕ) → Adds (replicate n 0) P b → bitAt b q ≡ true → P q
@@ -48,13 +49,12 @@ letterOf Concatenation = 0
 letterOf Complement = 0
 letterOf Star = 0
 
-module _ {t : Tree} {nodes : List Node} {m : ℕ} {lefts closed letters specials rows w lent : List ℕ}
-    (S : Setting t nodes m lefts closed letters specials rows w lent) where
+module _ {t : Tree} {nodes : List Node} {m : ℕ} {lefts run w : List ℕ} {numbers : ℕ} (S : Setting t nodes m lefts run w numbers) where
   recorded : Recorded t nodes m
-  recorded = S .fillable .recorded
+  recorded = S .recorded
 
   few : m ≤ 64
-  few = S .fillable .recorded .few
+  few = S .recorded .few
 
   -- ---- each step is a move
   -- one bit, one move
@@ -91,9 +91,9 @@ module _ {t : Tree} {nodes : List Node} {m : ℕ} {lefts closed letters specials
   part-move {y} h v = record { part = partAt t y; first = h .first; within = h .within; move = v }
 
   -- a single free move
-  pub free-move : (s s′ j : ℕ) → FreeMove (S .moves .single) s s′ → RuleMove w t 0 s j s′ j
+  pub free-move : (s s′ j : ℕ) → FreeMove (S .built .moves .single) s s′ → RuleMove w t 0 s j s′ j
   free-move s s′ j f =
-      let v = added 256 (128 * s + s′) (S .moves .moves) (f .move) in
+      let v = added 256 (128 * s + s′) (S .built .moves .moves) (f .move) in
       let h = at-record (v .node) (v .within) in
       let l = subst (λ (y : ℕ). Left (partAt t (v .node)) (h .first) (getD lefts y 0)) (sym (h .root)) (S .left _ (h .first) (h .within)) in
       part-move h
@@ -135,10 +135,10 @@ module _ {t : Tree} {nodes : List Node} {m : ℕ} {lefts closed letters specials
       rw (a′, b′, c, d) (part-move h v)
 
   -- a letter's step
-  pub letter-move : (p q : ℕ) → LetterStep letters w p q → RuleMove w t 0 (p % 128) (p / 128) (q % 128) (q / 128)
+  pub letter-move : (p q : ℕ) → LetterStep (letterPart run) w p q → RuleMove w t 0 (p % 128) (p / 128) (q % 128) (q / 128)
   letter-move p q f =
       let c = getD w (p / 128) 0 in
-      let v = added 512 (128 * c + p % 128) (S .letter) (f .event) in
+      let v = added 512 (128 * c + p % 128) (S .built .letter) (f .event) in
       let a : (128 * c + p % 128) % 128 ≡ p % 128 = omega arith in
       let b : (128 * c + p % 128) / 128 ≡ c = omega arith in
       let l : p % 128 / 2 < m = rw a at (v .small) in
@@ -151,39 +151,29 @@ module _ {t : Tree} {nodes : List Node} {m : ℕ} {lefts closed letters specials
       (letter-of (partAt t (p % 128 / 2)) (h .first) (p / 128) c (sym (kind-is recorded (p % 128 / 2) l) ∙ k) (f .within) refl)
 
   -- the special node of an entry
-  pub special-entry : (s : ℕ) → bitAt specials s ≡ true → (s / 2 < m) × (s % 2 ≡ 0) × T (isSpecial (partAt t (s / 2)))
+  pub special-entry : (s : ℕ) → bitAt (specialPart run) s ≡ true → (s / 2 < m) × (s % 2 ≡ 0) × SpecialAt t (s / 2)
   special-entry s e =
-      let v = added 2 s (S .special) e in
+      let v = added 2 s (S .built .special) e in
       (v .small, v .even, T-of (isSpecial (partAt t (s / 2))) (sym (special-is recorded (s / 2) (v .small)) ∙ v .special))
 
-  -- the list has a special part's first row at its record
-  pub row-here : {u : Tree} {x : ℕ} → Part t 0 u x → T (isSpecial u) → getD rows (x + below u) 0 ≡ firstRow t (length w) u
-  row-here p h = row-of t (length w) (S .fillable .rising) recorded (S .first) p h
-
-  -- the blocks below node k are there
-  module _ (k : ℕ) (done : BlocksBelow w lent t k) where
+  -- a table that holds the blocks below node k
+  module _ (lent : List ℕ) (k : ℕ) (done : BlocksBelow w lent t (firstPart run) k) where
     -- a special node's step
-    pub span-move : (p q : ℕ) → p % 128 < 2 * k → SpanStep specials rows lent (length w) p q
+    pub span-move : (p q : ℕ) → p % 128 < 2 * k → SpanStep (specialPart run) (firstPart run) lent (length w) p q
         → RuleMove w t 0 (p % 128) (p / 128) (q % 128) (q / 128)
     span-move p q z f =
         let (l, ev, s) = special-entry (p % 128) (f .special) in
+        let u = partAt t (p % 128 / 2) in
         let h = at-record (p % 128 / 2) l in
         let e = f .exit in
-        let short = S .fillable .short in
-        let low = f .from in
-        let high = f .to in
-        let r : getD rows (p % 128 / 2) 0 ≡ firstRow t (length w) (partAt t (p % 128 / 2)) =
-        ap (λ (i : ℕ). getD rows i 0) (h .root) ∙ row-here (h .within) s in
-        let g = done (partAt t (p % 128 / 2)) (h .first) (h .within) s (omega (arith, h .root)) (p / 128) (q / 128) (omega arith)
-        (omega arith) in
+        let g = held-span (S .short) (done (p % 128 / 2) (omega arith) s) (p / 128) (q / 128) (f .from) (f .to) in
         through h p q (p / 128) (q / 128) (omega arith) (omega arith) refl refl
-        (span-of (partAt t (p % 128 / 2)) (h .first) (p / 128) (q / 128) s
-        (obeys-eq w (partAt t (p % 128 / 2)) (p / 128) (q / 128) .0
-        (T-of (obeys w (partAt t (p % 128 / 2)) (p / 128) (q / 128)) (sym g ∙ rw r at (f .span)))))
+        (span-of u (h .first) (p / 128) (q / 128) s
+        (obeys-eq w u (p / 128) (q / 128) .0 (T-of (obeys w u (p / 128) (q / 128)) (sym g ∙ f .span))))
 
     -- ---- each move is a step
     abbrev Stepping : ℕ → ℕ → Type 0
-    Stepping = Step (automaton closed letters specials rows w lent)
+    Stepping = Step (automatonOf run w lent)
 
     free-step : {u : Tree} {x : ℕ} (s s′ j : ℕ) → Part t 0 u x → s < 128 → s′ < 128
         → KindMove (kindOf u) (x + below u) (getD lefts (x + below u) 0) (128 * s + s′) → Stepping (128 * j + s) (128 * j + s′)
@@ -197,8 +187,8 @@ module _ {t : Tree} {nodes : List Node} {m : ℕ} {lefts closed letters specials
         } in
         inl (record {
           number = omega arith;
-          move = rw (e, e′) (S .moves .closed .all s s′ a
-              (after (start refl) (record { from = a; to = b; move = S .moves .moves .new (128 * s + s′) v })));
+          move = rw (e, e′) (S .built .moves .closed .all s s′ a
+              (after (start refl) (record { from = a; to = b; move = S .built .moves .moves .new (128 * s + s′) v })));
         })
 
     span-step : {u : Tree} {x : ℕ} (j n : ℕ) → Part t 0 u x → T (isSpecial u) → x + below u < k → Obeys w u j n
@@ -210,20 +200,23 @@ module _ {t : Tree} {nodes : List Node} {m : ℕ} {lefts closed letters specials
         let d : (128 * j + entry u x) / 128 ≡ j = omega arith in
         let d′ : (128 * n + exit u x) / 128 ≡ n = omega arith in
         let y : 2 * (x + below u) / 2 ≡ x + below u = omega arith in
-        let short = S .fillable .short in
         let low = o .order in
         let high = o .inside in
-        let g = done u x p h l j n (omega arith) (omega arith) ∙ of-T (obeys w u j n) (obeys-eq w u j n .1 o) in
+        let a : partAt t (x + below u) ≡ u = part-at p in
+        let b : HoldsBlock w u lent (getD (firstPart run) (x + below u) 0) =
+        subst (λ (v : Tree). HoldsBlock w v lent (getD (firstPart run) (x + below u) 0)) a
+        (done (x + below u) l (subst (λ (v : Tree). T (isSpecial v)) (sym a) h)) in
+        let g = held-span (S .short) b j n low high ∙ of-T (obeys w u j n) (obeys-eq w u j n .1 o) in
         inr (inr (record {
           exit = omega arith;
           from = rw (d, d′) low;
           to = rw d′ high;
-          special = rw e (S .special .new (2 * (x + below u)) (record {
+          special = rw e (S .built .special .new (2 * (x + below u)) (record {
             small = rw y z;
             even = omega arith;
             special = rw y (ap specialKind (part-kind recorded p) ∙ special-kind u ∙ of-T (isSpecial u) h);
           }));
-          span = rw (e, y, d, d′, row-here p h) g;
+          span = rw (e, y, d, d′) g;
         }))
 
     letter-step : (o c x j : ℕ) → Part t 0 (letter o c) x → j < length w → getD w j 0 ≡ c
@@ -239,7 +232,7 @@ module _ {t : Tree} {nodes : List Node} {m : ℕ} {lefts closed letters specials
         inr (inl (record {
           exit = omega arith;
           within = rw d h;
-          event = rw (d, e, g) (S .letter .new (128 * c + 2 * (x + below (letter o c))) (record {
+          event = rw (d, e, g) (S .built .letter .new (128 * c + 2 * (x + below (letter o c))) (record {
             small = rw a z;
             even = omega arith;
             letter = rw (a, b) (part-kind recorded p);

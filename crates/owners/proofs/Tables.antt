@@ -1,38 +1,51 @@
--- A run of numbers that has all blocks is the span table. Assumes nothing.
-use mathlib.Core.Path.{_≡_, ap, _∙_}
-use mathlib.Core.List.{List, _∷_}
-use Prim.Native.Nat.{ℕ, zero, suc, _+_, _*_, _≤_}
+-- What all turns leave: the blocks of a rule in their places, which may be the whole span table. Assumes nothing.
+use mathlib.Core.Path.{_≡_, sym, ap, ap₂, _∙_}
+use mathlib.Core.Bool.{Bool, false}
+use mathlib.Core.List.{List, _++_}
+use Prim.Native.Nat.{ℕ, _+_, _*_}
 use native.Mathlib.Omega.{arith}
-use lib.ListN.{length, getD}
-use Rattle.bits.specs.Bit.{bitAt}
+use lib.ListN.{length, take, drop, length-drop, take-append-drop}
+use lib.Seq.{take-all}
 use Rattle.bits.proofs.Packed.{Small}
 use Rattle.event.specs.Event.{Word}
-use Rattle.regex.specs.Tree.{Tree, empty, size, specials}
-use Rattle.work.specs.Table.{startOf, endOf, blockLength, HoldsBlock, specialParts, Rising, table, needOf}
-use Rattle.work.proofs.Moves.{part-range}
-use Rattle.work.proofs.TableLaws.{holds, parts-length}
-use Rattle.work.proofs.TableOnly.{table-only}
-use Rattle.owners.specs.Turns.{HasBlock, BlocksBelow}
-use Rattle.owners.specs.Blocks.{firstRow}
-use Rattle.owners.proofs.BlockLaws.{special-at, index-row}
+use Rattle.regex.specs.declared.Node.{Node}
+use Rattle.regex.specs.Tree.{Tree, empty, specials}
+use Rattle.table.proofs.LayoutLaws.{number-part, number-same, held-numbers, held-blocks}
+use Rattle.work.specs.Table.{blockLength, specialParts, table, needOf}
+use Rattle.work.proofs.TableLaws.{parts-length}
+use Rattle.owners.specs.Filling.{Fillable, Placed}
+use Rattle.owners.specs.Blocks.{FirstNumbers}
+use Rattle.owners.specs.Turns.{AllTurned}
+use Rattle.owners.proofs.BlockLaws.{off-blocks, blocks-held}
 
-module _ (w : Word) (run : List ℕ) (short : length w ≤ 255) where
-  -- a block that stands from row r on stands from number 4 r on
-  has-holds : (u : Tree) (r first : ℕ) → first ≡ 4 * r → HasBlock w run u r → HoldsBlock w u run first
-  has-holds u r first e h =
-      holds w u run first short (λ p l.
-      let q : 64 * first + p ≡ 256 * (r + startOf p) + endOf p = omega arith in
-      ap (bitAt run) q ∙ h (startOf p) (endOf p) (omega arith) (omega arith))
+-- the blocks that the turns leave stand where they are to
+module _ {t : Tree} {nodes : List Node} {m : ℕ} {w : Word} {whole special : ℕ} {firsts lent b : List ℕ}
+    (f : Fillable t nodes m w (length lent) whole special) (first : FirstNumbers nodes m (length w) special firsts)
+    (before : Small lent) (small : Small b) (long : length b ≡ length lent) where
+  pub all-placed : {limit c : ℕ} {spent : Bool} → AllTurned t w firsts whole limit lent b c spent → spent ≡ false
+      → Placed w t whole special lent b
+  all-placed g e =
+      let k : length (specialParts t) * blockLength (length w) ≡ specials t * blockLength (length w) =
+      ap (_* blockLength (length w)) (parts-length t) in
+      let i = f .ruleFits in
+      let j = f .partsFit in
+      record {
+        rule = held-numbers w b (f .short) small t whole (omega arith) (g .rule e);
+        parts = ap (λ (n : ℕ). take n (drop special b)) (sym k)
+            ∙ held-blocks w b (f .short) small (specialParts t) (empty 0) special (omega arith)
+            (blocks-held (f .rising) (f .recorded) first (g .done e));
+        elsewhere = λ q h o.
+            number-same b lent q q (small q) (before q)
+            (λ s l. g .outside e _ (number-part h l) (off-blocks (f .rising) (f .recorded) first o l));
+        long = long;
+      }
 
-  pub table-is : Small run → (t : Tree) → Rising 0 (specialParts t) → length run ≡ needOf (specials t) (length w) → HasBlock w run t 0
-      → BlocksBelow w run t (size t) → run ≡ table w t
-  table-is small t up e h g = table-only w run short t (empty 0) small e each
-    where
-      each : (b : ℕ) → b ≤ specials t → HoldsBlock w (getD (t ∷ specialParts t) b (empty 0)) run (b * blockLength (length w))
-      each zero k = has-holds t 0 (0 * blockLength (length w)) (omega arith) h
-      each (suc b) k =
-          let l = parts-length t in
-          let (x, p, s) = special-at t b (omega arith) in
-          let r = index-row t (length w) up b (omega arith) in
-          let u = getD (specialParts t) b (empty 0) in
-          has-holds u (firstRow t (length w) u) (suc b * blockLength (length w)) (omega arith) (g u x p s (omega (arith, part-range p)))
+-- where a table has just the numbers that are needed, and the special nodes' blocks follow that of the whole rule, it is the span table
+pub placed-table : {t : Tree} {w : Word} {lent b : List ℕ} → Placed w t 0 (blockLength (length w)) lent b
+    → length lent ≡ needOf (specials t) (length w) → b ≡ table w t
+unfolding table
+placed-table {t} {w} {lent} {b} p e =
+    let k = p .long in
+    sym (take-append-drop (blockLength (length w)) b)
+    ∙ ap₂ _++_ (p .rule)
+    (sym (take-all (specials t * blockLength (length w)) (drop (blockLength (length w)) b) (simp length-drop (omega arith))) ∙ p .parts)

@@ -1,4 +1,4 @@
--- What the steps over the arrays reach is what the owner's walk reaches. Assumes nothing.
+-- What the steps of the automaton reach is what the owner's walk reaches. Assumes nothing.
 use mathlib.Core.Path.{_≡_, sym, subst}
 use mathlib.Core.Logic.{_⊎_, inl, inr, ⊎-elim, _↔_}
 use mathlib.Core.List.{List}
@@ -11,8 +11,8 @@ use Rattle.regex.specs.Tree.{Tree, intersection, complement, below, size}
 use Rattle.moves.specs.Reached.{Reached, start, after}
 use Rattle.moves.specs.Moves.{Leads}
 use Rattle.moves.proofs.Paths.{reached-from}
-use Rattle.walk.specs.Automaton.{automaton, Step}
-use Rattle.rows.specs.Row.{StartsAt}
+use Rattle.levels.specs.Parts.{firstPart}
+use Rattle.walk.specs.Automaton.{automatonOf, Step}
 use Rattle.work.specs.Walk.{entry, exit, Part, itself, union-left, union-right, intersection-left, intersection-right, concatenation-left}
 use Rattle.work.specs.Walk.{concatenation-right, complement-inner, star-inner, Owner, whole, special, Begins, begin-rule, begin-left}
 use Rattle.work.specs.Walk.{begin-right}
@@ -22,7 +22,8 @@ use Rattle.work.proofs.TreeWalk as tree
 use Rattle.work.proofs.TreeWalk.{TreeWalk}
 use Rattle.work.proofs.Owners.{SpecialWalk, reached-range, reaches-walk, reaches-below, reaches-state}
 use Rattle.work.proofs.WorkSize.{owner-range}
-use Rattle.owners.specs.Turns.{BlocksBelow, Setting}
+use Rattle.owners.specs.Blocks.{BlocksBelow}
+use Rattle.owners.specs.Turns.{Setting}
 use Rattle.owners.proofs.Steps.{free-move, letter-move, span-move, move-step}
 
 -- ---- the walk of a special node is over its own sides
@@ -71,25 +72,24 @@ module _ (w : Word) (i : ℕ) where
       (of-part (x + below (complement o a)) s j p (omega arith) (omega arith) (reaches-walk w i l r))
 
 -- ---- what the steps reach
-module _ {t : Tree} {nodes : List Node} {m : ℕ} {lefts closed letters specials rows w lent : List ℕ}
-    (S : Setting t nodes m lefts closed letters specials rows w lent) (k : ℕ) (done : BlocksBelow w lent t k) (i : ℕ)
-    (l : i ≤ length w) where
+module _ {t : Tree} {nodes : List Node} {m : ℕ} {lefts run w : List ℕ} {numbers : ℕ} (S : Setting t nodes m lefts run w numbers)
+    (lent : List ℕ) (k : ℕ) (done : BlocksBelow w lent t (firstPart run) k) (i : ℕ) (l : i ≤ length w) where
   abbrev Stepping : ℕ → ℕ → Type 0
-  Stepping = Step (automaton closed letters specials rows w lent)
+  Stepping = Step (automatonOf run w lent)
 
   -- the owner's walk goes along with the steps, as long as its states are those of the nodes below k
   module _ (u : Owner) (low : (s j : ℕ) → Reaches w t u i s j → s < 2 * k) where
     -- over closed free moves, one by one
-    along : (s s′ j : ℕ) → Leads (S .moves .single) s s′ → Reaches w t u i s j → Reaches w t u i s′ j
+    along : (s s′ j : ℕ) → Leads (S .built .moves .single) s s′ → Reaches w t u i s j → Reaches w t u i s′ j
     along s s′ j (start e) r = subst (λ (z : ℕ). Reaches w t u i z j) (sym e) r
     along s s′ j (after {p} d f) r = onward (along s p j d r) (free-move S p s′ j f)
 
     on : (p q : ℕ) → Stepping p q → Reaches w t u i (p % 128) (p / 128) → Reaches w t u i (q % 128) (q / 128)
     on p q (inl f) r =
         subst (λ (n : ℕ). Reaches w t u i (q % 128) n) (sym (f .number))
-        (along (p % 128) (q % 128) (p / 128) (S .moves .closed .only (p % 128) (q % 128) (omega arith) (omega arith) (f .move)) r)
+        (along (p % 128) (q % 128) (p / 128) (S .built .moves .closed .only (p % 128) (q % 128) (omega arith) (omega arith) (f .move)) r)
     on p q (inr (inl f)) r = onward r (letter-move S p q f)
-    on p q (inr (inr f)) r = onward r (span-move S k done p q (low (p % 128) (p / 128) r) f)
+    on p q (inr (inr f)) r = onward r (span-move S lent k done p q (low (p % 128) (p / 128) r) f)
 
     reaches : {X : ℕ → Type 0} {q : ℕ} → ((p : ℕ) → X p → Reaches w t u i (p % 128) (p / 128)) → Reached X Stepping q
         → Reaches w t u i (q % 128) (q / 128)
@@ -101,8 +101,8 @@ module _ {t : Tree} {nodes : List Node} {m : ℕ} {lefts closed letters specials
       → Reaches w t u i (p % 128) (p / 128)
   at-entry a x p u r e b =
       let z = part-range r in
-      let f = S .fillable .recorded .few in
-      let g = S .fillable .recorded .long in
+      let f = S .recorded .few in
+      let g = S .recorded .long in
       let c : p % 128 ≡ entry a x = omega arith in
       let d : p / 128 ≡ i = omega arith in
       rw (c, d) (begin b)
@@ -112,7 +112,7 @@ module _ {t : Tree} {nodes : List Node} {m : ℕ} {lefts closed letters specials
       → Reached (λ (p : ℕ). p ≡ 128 * i + (exit a x - 1)) Stepping (128 * j + s)
   steps {a} {x} p h tree.start = let e : 128 * i + entry a x ≡ 128 * i + (exit a x - 1) = omega arith in start e
   steps {a} {x} p h (tree.step {s} {j} r v) =
-      after (steps p h r) (move-step S k done (by-part w p v) (omega (arith, reached-range w i l a x s j r)))
+      after (steps p h r) (move-step S lent k done (by-part w p v) (omega (arith, reached-range w i l a x s j r)))
 
   steps-to : {a : Tree} {x q : ℕ} → Part t 0 a x → x + size a ≤ k → TreeWalk w a x i (q % 128) (q / 128)
       → Reached (λ (p : ℕ). p ≡ 128 * i + (exit a x - 1)) Stepping q
@@ -121,39 +121,41 @@ module _ {t : Tree} {nodes : List Node} {m : ℕ} {lefts closed letters specials
       subst (Reached (λ (p : ℕ). p ≡ 128 * i + (exit a x - 1)) Stepping) e (steps p h r)
 
 -- ---- the three owners
-module _ {t : Tree} {nodes : List Node} {m : ℕ} {lefts closed letters specials rows w lent : List ℕ}
-    (S : Setting t nodes m lefts closed letters specials rows w lent) (i : ℕ) (l : i ≤ length w) where
-  -- the place q is reached over the arrays from the entries before the exits x and y
+module _ {t : Tree} {nodes : List Node} {m : ℕ} {lefts run w : List ℕ} {numbers : ℕ} (S : Setting t nodes m lefts run w numbers)
+    (lent : List ℕ) (i : ℕ) (l : i ≤ length w) where
+  -- the place q is reached by the automaton's steps from the entries before the exits x and y
   abbrev pub Walked : (x y q : ℕ) → Type 0
-  Walked x y q = Reached (StartsAt i x y) (Step (automaton closed letters specials rows w lent)) q
+  Walked x y q = Reached (λ (p : ℕ). (p ≡ 128 * i + (x - 1)) ⊎ (p ≡ 128 * i + (y - 1))) (Step (automatonOf run w lent)) q
 
-  pub whole-reached : BlocksBelow w lent t (size t) → (q : ℕ) → Walked (exit t 0) (exit t 0) q ↔ TreeWalk w t 0 i (q % 128) (q / 128)
+  pub whole-reached : BlocksBelow w lent t (firstPart run) (size t) → (q : ℕ)
+      → Walked (exit t 0) (exit t 0) q ↔ TreeWalk w t 0 i (q % 128) (q / 128)
   whole-reached done q = (
-    λ r. reaches-walk w i l (reaches S (size t) done i l whole (λ s j z. reaches-state w i l z)
-        (λ p x. at-entry S (size t) done i l t 0 p whole itself (⊎-elim (λ e. e) (λ e. e) x) begin-rule) r),
-    λ r. reached-from (λ p e. start (inl e)) (steps-to S (size t) done i l itself (omega arith) r),
+    λ r. reaches-walk w i l (reaches S lent (size t) done i l whole (λ s j z. reaches-state w i l z)
+        (λ p x. at-entry S lent (size t) done i l t 0 p whole itself (⊎-elim (λ e. e) (λ e. e) x) begin-rule) r),
+    λ r. reached-from (λ p e. start (inl e)) (steps-to S lent (size t) done i l itself (omega arith) r),
   )
 
-  pub complement-reached : (o x : ℕ) (a : Tree) → Part t 0 (complement o a) x → BlocksBelow w lent t (x + below (complement o a))
-      → (q : ℕ) → Walked (exit a x) (exit a x) q ↔ TreeWalk w a x i (q % 128) (q / 128)
+  pub complement-reached : (o x : ℕ) (a : Tree) → Part t 0 (complement o a) x
+      → BlocksBelow w lent t (firstPart run) (x + below (complement o a)) → (q : ℕ)
+      → Walked (exit a x) (exit a x) q ↔ TreeWalk w a x i (q % 128) (q / 128)
   complement-reached o x a p done q =
       let y = x + below (complement o a) in
       let c = part-part p (complement-inner itself) in (
-        λ r. of-inner w i l p (reaches S y done i l (special y) (λ s j z. reaches-below w i l z)
-            (λ n z. at-entry S y done i l a x n (special y) c (⊎-elim (λ e. e) (λ e. e) z) (begin-inner p)) r),
-        λ r. reached-from (λ p e. start (inl e)) (steps-to S y done i l c (omega arith) r),
+        λ r. of-inner w i l p (reaches S lent y done i l (special y) (λ s j z. reaches-below w i l z)
+            (λ n z. at-entry S lent y done i l a x n (special y) c (⊎-elim (λ e. e) (λ e. e) z) (begin-inner p)) r),
+        λ r. reached-from (λ p e. start (inl e)) (steps-to S lent y done i l c (omega arith) r),
       )
 
   pub intersection-reached : (o x : ℕ) (a b : Tree) → Part t 0 (intersection o a b) x
-      → BlocksBelow w lent t (x + below (intersection o a b)) → (q : ℕ) → Walked (exit a x) (exit b (x + size a)) q
+      → BlocksBelow w lent t (firstPart run) (x + below (intersection o a b)) → (q : ℕ) → Walked (exit a x) (exit b (x + size a)) q
       ↔ (TreeWalk w a x i (q % 128) (q / 128) ⊎ TreeWalk w b (x + size a) i (q % 128) (q / 128))
   intersection-reached o x a b p done q =
       let y = x + below (intersection o a b) in
       let c = part-part p (intersection-left itself) in
       let d = part-part p (intersection-right itself) in (
-        λ r. of-sides w i l p (reaches S y done i l (special y) (λ s j z. reaches-below w i l z)
-            (λ n z. ⊎-elim (λ e. at-entry S y done i l a x n (special y) c e (begin-left p))
-            (λ e. at-entry S y done i l b (x + size a) n (special y) d e (begin-right p)) z) r),
-        λ r. ⊎-elim (λ z. reached-from (λ p e. start (inl e)) (steps-to S y done i l c (omega arith) z))
-            (λ z. reached-from (λ p e. start (inr e)) (steps-to S y done i l d (omega arith) z)) r,
+        λ r. of-sides w i l p (reaches S lent y done i l (special y) (λ s j z. reaches-below w i l z)
+            (λ n z. ⊎-elim (λ e. at-entry S lent y done i l a x n (special y) c e (begin-left p))
+            (λ e. at-entry S lent y done i l b (x + size a) n (special y) d e (begin-right p)) z) r),
+        λ r. ⊎-elim (λ z. reached-from (λ p e. start (inl e)) (steps-to S lent y done i l c (omega arith) z))
+            (λ z. reached-from (λ p e. start (inr e)) (steps-to S lent y done i l d (omega arith) z)) r,
       )

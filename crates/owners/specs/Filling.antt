@@ -1,15 +1,16 @@
 -- What `fill` is given, and what it makes of it. Assumes nothing.
 use mathlib.Core.Path.{_≡_}
+use mathlib.Core.Logic.{_⊎_}
 use mathlib.Core.List.{List, [], _∷_, _++_}
 use mathlib.Core.Bool.{Bool, true, false}
-use Prim.Native.Nat.{ℕ, _≤_, _<_}
-use lib.ListN.{length, take, replicate}
+use Prim.Native.Nat.{ℕ, _+_, _*_, _≤_, _<_}
+use lib.ListN.{length, getD, take, drop, replicate}
 use Rattle.event.specs.Event.{Word, Events}
 use Rattle.regex.specs.declared.Node.{Node}
 use Rattle.regex.specs.Tree.{Tree, size, specials, records}
 use Rattle.regex.specs.TreeOf.{stacked, top}
 use Rattle.work.specs.Count.{fullCount}
-use Rattle.work.specs.Table.{specialParts, Rising, needOf, table}
+use Rattle.work.specs.Table.{blockLength, block, specialParts, Rising, blocks}
 
 -- the trees that a run of records leaves on a stack
 abbrev pub rebuilt : List Tree → List Node → List Tree
@@ -27,16 +28,33 @@ pub record Recorded (t : Tree) (nodes : List Node) (m : ℕ) : Type 0 where
   pub long : size t ≡ m
   pub few : m ≤ 64
 
--- what `fill` takes: the records of a rule t, a word, and a table of as many numbers as are needed
-pub record Fillable (t : Tree) (nodes : List Node) (m : ℕ) (w : Word) (lent : List ℕ) : Type 0 where
+-- number q is none of the whole rule's block, which begins at number `whole`
+abbrev pub OffRule : (n whole q : ℕ) → Type 0
+OffRule n whole q = (q < whole) ⊎ (whole + blockLength n ≤ q)
+
+-- number q is none of the special nodes' k blocks, the first of which begins at number `special`
+abbrev pub OffSpecials : (k n special q : ℕ) → Type 0
+OffSpecials k n special q = (q < special) ⊎ (special + k * blockLength n ≤ q)
+
+-- what `fill` takes: the records of a rule t, a word, and a table of so many numbers with room for both areas, which are apart
+pub record Fillable (t : Tree) (nodes : List Node) (m : ℕ) (w : Word) (numbers whole special : ℕ) : Type 0 where
   pub recorded : Recorded t nodes m
   pub few : specials t ≤ 7
   pub rising : Rising 0 (specialParts t)
   pub events : Events w
   pub short : length w ≤ 255
-  pub room : length lent ≡ needOf (specials t) (length w)
+  pub ruleFits : whole + blockLength (length w) ≤ numbers
+  pub partsFit : special + specials t * blockLength (length w) ≤ numbers
+  pub apart : (whole + blockLength (length w) ≤ special) ⊎ (special + specials t * blockLength (length w) ≤ whole)
 
--- b is the table after `fill`: cleared where the full work count passes the limit, else the span table of t
-pub record FilledTable (t : Tree) (w : Word) (limit : ℕ) (b : List ℕ) (count : ℕ) (spent : Bool) : Type 0 where
-  pub over : limit < fullCount w t → (spent ≡ true) × (count ≡ limit) × (b ≡ replicate (needOf (specials t) (length w)) 0)
-  pub within : fullCount w t ≤ limit → (spent ≡ false) × (count ≡ fullCount w t) × (b ≡ table w t)
+-- b has the blocks of t in both areas, and is as it was lent elsewhere
+pub record Placed (w : Word) (t : Tree) (whole special : ℕ) (lent b : List ℕ) : Type 0 where
+  pub rule : take (blockLength (length w)) (drop whole b) ≡ block w t
+  pub parts : take (specials t * blockLength (length w)) (drop special b) ≡ blocks w (specialParts t)
+  pub elsewhere : (q : ℕ) → OffRule (length w) whole q → OffSpecials (specials t) (length w) special q → getD b q 0 ≡ getD lent q 0
+  pub long : length b ≡ length lent
+
+-- b is the table after `fill`: cleared where the full work count passes the limit, else with the blocks of t
+pub record FilledTable (t : Tree) (w : Word) (limit whole special : ℕ) (lent b : List ℕ) (count : ℕ) (spent : Bool) : Type 0 where
+  pub over : limit < fullCount w t → (spent ≡ true) × (count ≡ limit) × (b ≡ replicate (length lent) 0)
+  pub within : fullCount w t ≤ limit → (spent ≡ false) × (count ≡ fullCount w t) × Placed w t whole special lent b

@@ -1,7 +1,8 @@
--- What `fill` is given and makes: the definitions to believe.
+-- What `fill` is given and makes.
 pub mod Filling
 -- What the private functions do.
 pub mod Parts
 pub mod Sides
 pub mod Blocks
+pub mod Building
 pub mod Turns

@@ -1,8 +1,9 @@
 -- The parts of a rule in the order of its records. Assumes nothing.
 use mathlib.Core.List.{List, [], _∷_, _++_}
-use Prim.Native.Nat.{ℕ, _+_}
+use Prim.Native.Nat.{ℕ}
+use lib.Dec.{T}
 use lib.ListN.{getD}
-use Rattle.regex.specs.Tree.{Tree, empty, epsilon, letter, union, intersection, concatenation, complement, star}
+use Rattle.regex.specs.Tree.{Tree, empty, epsilon, letter, union, intersection, concatenation, complement, star, isSpecial}
 
 -- the part that each record heads
 unfoldable pub allParts : Tree → List Tree
@@ -19,7 +20,6 @@ allParts (star o a) = allParts a ++ (star o a ∷ [])
 abbrev pub partAt : Tree → ℕ → Tree
 partAt t y = getD (allParts t) y (empty 0)
 
--- the sum of f over a list of parts
-abbrev pub sumOver : (Tree → ℕ) → List Tree → ℕ
-sumOver f [] = 0
-sumOver f (u ∷ l) = f u + sumOver f l
+-- record y is a special node
+abbrev pub SpecialAt : Tree → ℕ → Type 0
+SpecialAt t y = T (isSpecial (partAt t y))

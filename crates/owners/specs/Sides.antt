@@ -20,16 +20,16 @@ sidesOf Complement = 1
 sidesOf Star = 1
 
 -- the list has the first record of each part before node i; a node with sides is not the first
-pub record SidesKnown (firsts : List ℕ) (sides i : ℕ) : Type 0 where
+pub record SidesKnown (begins : List ℕ) (sides i : ℕ) : Type 0 where
   pub within : i < 64
   pub one : sides ≡ 1 → 0 < i
-  pub two : sides ≡ 2 → (0 < i) × (0 < getD firsts (i - 1) 0) × (getD firsts (i - 1) 0 ≤ 64)
+  pub two : sides ≡ 2 → (0 < i) × (0 < getD begins (i - 1) 0) × (getD begins (i - 1) 0 ≤ 64)
 
 -- f is the first record of node i's part, and l its left or only side, 0 where it has none
-pub record SidesFound (firsts : List ℕ) (sides i f l : ℕ) : Type 0 where
+pub record SidesFound (begins : List ℕ) (sides i f l : ℕ) : Type 0 where
   pub none : sides ≡ 0 → (f ≡ i) × (l ≡ 0)
-  pub one : sides ≡ 1 → (f ≡ getD firsts (i - 1) 0) × (l ≡ i - 1)
-  pub two : sides ≡ 2 → (f ≡ getD firsts (getD firsts (i - 1) 0 - 1) 0) × (l ≡ getD firsts (i - 1) 0 - 1)
+  pub one : sides ≡ 1 → (f ≡ getD begins (i - 1) 0) × (l ≡ i - 1)
+  pub two : sides ≡ 2 → (f ≡ getD begins (getD begins (i - 1) 0 - 1) 0) × (l ≡ getD begins (i - 1) 0 - 1)
 
 -- l is the left or only side of the part u, whose records stand from x on; 0 where it has none
 abbrev pub Left : Tree → ℕ → ℕ → Type 0

@@ -2,25 +2,25 @@
 use mathlib.Core.Path.{_≡_}
 use mathlib.Core.List.{List}
 use mathlib.Core.Bool.{Bool, true, false}
-use Prim.Native.Nat.{ℕ, _+_, _*_, _≤_, _<_}
-use lib.Dec.{T}
-use lib.ListN.{length, replicate}
-use Rattle.bits.specs.Bit.{bitAt, Adds}
-use Rattle.event.specs.Event.{Word}
+use Prim.Native.Nat.{ℕ, _+_, _≤_, _<_}
+use lib.ListN.{length, getD}
+use Rattle.bits.specs.Bit.{bitAt}
+use Rattle.event.specs.Event.{Word, Events}
 use Rattle.regex.specs.declared.Kind.{Kind}
 use Rattle.regex.specs.declared.Kind.the-variants.{Empty, Epsilon, Letter, Union, Intersection, Concatenation, Complement, Star}
 use Rattle.regex.specs.declared.Node.{Node}
-use Rattle.regex.specs.Tree.{Tree, empty, epsilon, letter, union, intersection, concatenation, complement, star, below, size, isSpecial}
-use Rattle.moves.specs.Moves.{ClosedMoves, LetterEntry, SpecialEntry}
-use Rattle.work.specs.Walk.{Part}
+use Rattle.regex.specs.Tree.{Tree, empty, epsilon, letter, union, intersection, concatenation, complement, star, size}
+use Rattle.table.specs.Layout.{blockAt, InBlock}
+use Rattle.levels.specs.Parts.{firstPart}
 use Rattle.work.specs.Count.{walks, specialWalks, fullCount}
-use Rattle.work.specs.Table.{obeys, table}
-use Rattle.owners.specs.Filling.{Fillable}
-use Rattle.owners.specs.Parts.{partAt}
+use Rattle.work.specs.Table.{HoldsBlock}
+use Rattle.owners.specs.Filling.{Recorded}
+use Rattle.owners.specs.Parts.{partAt, SpecialAt}
 use Rattle.owners.specs.Sides.{Lefts}
-use Rattle.owners.specs.Blocks.{FirstRows, firstRow}
+use Rattle.owners.specs.Blocks.{Spaced, BlocksBelow, OffBlocks}
+use Rattle.owners.specs.Building.{Built}
 
--- the owner's rows are turned round: where its inner walk does not end
+-- the owner's block has the spans at which its walks do not end
 abbrev pub isComplement : Kind → Bool
 isComplement Empty = false
 isComplement Epsilon = false
@@ -42,40 +42,37 @@ ownWalks w (concatenation o a b) = 0
 ownWalks w (complement o a) = walks w a
 ownWalks w (star o a) = 0
 
--- the table has the block of u from row r on
-abbrev pub HasBlock : Word → List ℕ → Tree → ℕ → Type 0
-HasBlock w run u r = (i j : ℕ) → i ≤ length w → j < 256 → bitAt run (256 * (r + i) + j) ≡ obeys w u i j
-
--- the table has the blocks of the special parts whose records stand below k
-abbrev pub BlocksBelow : Word → List ℕ → Tree → ℕ → Type 0
-BlocksBelow w run t k = (u : Tree) (x : ℕ) → Part t 0 u x → T (isSpecial u) → x + below u < k → HasBlock w run u (firstRow t (length w) u)
-
--- what the owners' turns go by: the records of a rule, the arrays made of them, the word and the table
-pub record Setting (t : Tree) (nodes : List Node) (m : ℕ) (lefts closed letters specials rows w lent : List ℕ) : Type 0 where
-  pub fillable : Fillable t nodes m w lent
+-- what the owners' turns go by: the records of a rule, its automaton, the word and a table of so many numbers
+pub record Setting (t : Tree) (nodes : List Node) (m : ℕ) (lefts run : List ℕ) (w : Word) (numbers : ℕ) : Type 0 where
+  pub recorded : Recorded t nodes m
+  pub events : Events w
+  pub short : length w ≤ 255
   pub left : Lefts t lefts
-  pub moves : ClosedMoves nodes lefts m closed
-  pub letter : Adds (replicate 512 0) (LetterEntry nodes m) letters
-  pub special : Adds (replicate 2 0) (SpecialEntry nodes m) specials
-  pub first : FirstRows nodes m (length w) rows
-  pub lengths : (length lefts ≡ 64) × (length closed ≡ 256) × (length rows ≡ 64)
+  pub sides : length lefts ≡ 64
+  pub built : Built nodes m lefts run
+  pub spaced : Spaced t (length w) (firstPart run) numbers
 
--- b is the table after node i had its turn
-pub record Turned (t : Tree) (w : Word) (i count limit : ℕ) (b : List ℕ) (c : ℕ) (spent : Bool) : Type 0 where
-  pub done : spent ≡ false → BlocksBelow w b t (i + 1)
+-- b is the table a after node i had its turn
+pub record Turned (t : Tree) (w : Word) (firsts : List ℕ) (i count limit : ℕ) (a b : List ℕ) (c : ℕ) (spent : Bool) : Type 0 where
+  pub done : spent ≡ false → BlocksBelow w b t firsts (i + 1)
+  pub outside : (q : ℕ) → (SpecialAt t i → InBlock (blockAt (getD firsts i 0) (length w)) q → ⊥) → bitAt b q ≡ bitAt a q
   pub counted : spent ≡ false → c ≡ count + ownWalks w (partAt t i)
   pub full : spent ≡ true → limit < count + ownWalks w (partAt t i)
   pub bounded : c ≤ limit
 
--- b is the table after all special nodes had their turns
-pub record SpecialsTurned (t : Tree) (w : Word) (limit : ℕ) (b : List ℕ) (c : ℕ) (spent : Bool) : Type 0 where
-  pub done : spent ≡ false → BlocksBelow w b t (size t)
+-- b is the table a after all special nodes had their turns
+pub record SpecialsTurned (t : Tree) (w : Word) (firsts : List ℕ) (limit : ℕ) (a b : List ℕ) (c : ℕ) (spent : Bool) : Type 0 where
+  pub done : spent ≡ false → BlocksBelow w b t firsts (size t)
+  pub outside : spent ≡ false → (q : ℕ) → OffBlocks t (length w) firsts q → bitAt b q ≡ bitAt a q
   pub counted : spent ≡ false → c ≡ specialWalks w t
   pub full : spent ≡ true → limit < specialWalks w t
   pub bounded : c ≤ limit
 
--- b is the table after the whole rule's turn
-pub record AllTurned (t : Tree) (w : Word) (limit : ℕ) (b : List ℕ) (c : ℕ) (spent : Bool) : Type 0 where
-  pub done : spent ≡ false → b ≡ table w t
+-- b is the table a after the whole rule's turn
+pub record AllTurned (t : Tree) (w : Word) (firsts : List ℕ) (whole limit : ℕ) (a b : List ℕ) (c : ℕ) (spent : Bool) : Type 0 where
+  pub rule : spent ≡ false → HoldsBlock w t b whole
+  pub done : spent ≡ false → BlocksBelow w b t firsts (size t)
+  pub outside : spent ≡ false → (q : ℕ) → (InBlock (blockAt whole (length w)) q → ⊥) → OffBlocks t (length w) firsts q
+      → bitAt b q ≡ bitAt a q
   pub counted : spent ≡ false → (c ≡ fullCount w t) × (c ≤ limit)
   pub full : spent ≡ true → limit < fullCount w t

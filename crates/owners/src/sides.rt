@@ -24,31 +24,31 @@ fn sides_of(k: Kind) -> usize
 
 // Where a part's records begin, and its left or only side, 0 where it has none.
 pub struct Extent {
-    pub first: usize,
+    pub begin: usize,
     pub left: usize,
 }
 
 // The extent of node i's part, from where those of the nodes before it begin.
-fn extent_of(firsts: &[usize], sides: usize, i: usize) -> Extent
-    requires { ⌜ (length (now firsts) ≡ 64) × SidesKnown (now firsts) sides i ⌝ }
-    ensures { λ r. ⌜ SidesFound (now (firsts .entry)) sides i (r .first) (r .left) ⌝ }
+fn extent_of(begins: &[usize], sides: usize, i: usize) -> Extent
+    requires { ⌜ (length (now begins) ≡ 64) × SidesKnown (now begins) sides i ⌝ }
+    ensures { λ r. ⌜ SidesFound (now (begins .entry)) sides i (r .begin) (r .left) ⌝ }
 {
     if sides == 1 {
-        let f = firsts[i - 1];
+        let f = begins[i - 1];
         return Extent {
-            first: f,
+            begin: f,
             left: i - 1,
         };
     }
     if sides == 2 {
-        let r = firsts[i - 1];
-        let f = firsts[r - 1];
+        let r = begins[i - 1];
+        let f = begins[r - 1];
         return Extent {
-            first: f,
+            begin: f,
             left: r - 1,
         };
     }
-    Extent { first: i, left: 0 }
+    Extent { begin: i, left: 0 }
 }
 
 // The left or only side of each node.
@@ -56,14 +56,14 @@ pub fn left_sides(nodes: [Node; 64], m: usize) -> [usize; 64]
     requires { ⌜ Recorded (treeFrom nodes m) nodes m ⌝ }
     ensures { λ r. ⌜ Lefts (treeFrom nodes m) r ⌝ }
 {
-    let mut firsts = [0usize; 64];
+    let mut begins = [0usize; 64];
     let mut lefts = [0usize; 64];
     let mut i = 0;
     while i < m {
         let node = nodes[i];
         let k = node.kind;
-        let e = extent_of(&firsts, sides_of(k), i);
-        firsts[i] = e.first;
+        let e = extent_of(&begins, sides_of(k), i);
+        begins[i] = e.begin;
         lefts[i] = e.left;
         i += 1;
     }

@@ -1,4 +1,6 @@
 // The owners' turns: a special node's block is filled when those within its sides are, and the whole rule's last.
+use crate::automaton::FIRSTS;
+use marks::Target;
 use moves::is_special;
 use regex::Kind;
 use regex::Node;
@@ -6,11 +8,14 @@ use walk::Tally;
 ghost use mathlib.Core.Path.{_≡_};
 ghost use mathlib.Core.Bool.{true};
 ghost use Prim.Native.Nat.{_<_, _≤_};
+ghost use lib.ListN.{length};
+ghost use Rattle.levels.specs.Parts.{firstPart};
 ghost use Rattle.moves.specs.Moves.{kindAt, specialKind};
 ghost use Rattle.owners.specs.Filling.{treeFrom};
-ghost use Rattle.owners.specs.Turns.{isComplement, BlocksBelow, Setting, Turned, SpecialsTurned, AllTurned};
+ghost use Rattle.owners.specs.Blocks.{BlocksBelow, WholeApart};
+ghost use Rattle.owners.specs.Turns.{isComplement, Setting, Turned, SpecialsTurned, AllTurned};
 
-// Whether the rows of a special node are turned round.
+// Whether a special node's block has the spans at which its walks do not end.
 fn is_complement(k: Kind) -> bool
     ensures { λ r. ⌜ r ≡ isComplement k ⌝ }
 {
@@ -31,42 +36,32 @@ fn own(
     nodes: [Node; 64],
     m: usize,
     lefts: &[usize],
-    closed: &[u64],
-    letters: &[u64],
-    specials: &[u64],
-    rows: &[usize],
+    automaton: &[u64],
     word: &[u8],
     table: &mut [u64],
     i: usize,
     count: u64,
     limit: u64,
 ) -> Tally
-    requires { ⌜ Setting (treeFrom nodes m) nodes m
-        (now lefts) (now closed) (now letters) (now specials) (now rows) (now word) (now table) ⌝ }
-    requires { ⌜ BlocksBelow (now word) (now table) (treeFrom nodes m) i ⌝ }
+    requires { ⌜ Setting (treeFrom nodes m) nodes m (now lefts) (now automaton) (now word) (length (now table)) ⌝ }
+    requires { ⌜ BlocksBelow (now word) (now table) (treeFrom nodes m) (firstPart (now automaton)) i ⌝ }
     requires { ⌜ (i < m) × (specialKind (kindAt nodes i) ≡ true) × (count ≤ limit) ⌝ }
-    ensures { λ t. ⌜ Turned (treeFrom nodes m) (now (word .entry)) i count limit (now (table .exit)) (t .count) (t .spent) ⌝ }
+    ensures { λ t. ⌜ Turned (treeFrom nodes m) (now (word .entry)) (firstPart (now (automaton .entry))) i count limit
+        (now (table .entry)) (now (table .exit)) (t .count) (t .spent) ⌝ }
 {
     let node = nodes[i];
     let k = node.kind;
-    let flip = is_complement(k);
+    let complement = is_complement(k);
     // The exits of its sides; the right one stands just before it, and the only side of a complement is both.
-    let x = 2 * lefts[i] + 1;
-    let y = 2 * i - 1;
-    rows::fill_block(
-        closed,
-        letters,
-        specials,
-        rows,
-        word,
-        table,
-        rows[i],
-        x,
-        y,
-        flip,
-        count,
-        limit,
-    )
+    let left = 2 * lefts[i] + 1;
+    let right = 2 * i - 1;
+    let target = Target {
+        first: automaton[FIRSTS + i] as usize,
+        left: left,
+        right: right,
+        complement: complement,
+    };
+    walk::fill_block(automaton, word, table, target, count, limit)
 }
 
 // The turns of the special nodes, inner ones first.
@@ -74,17 +69,14 @@ fn fill_specials(
     nodes: [Node; 64],
     m: usize,
     lefts: &[usize],
-    closed: &[u64],
-    letters: &[u64],
-    specials: &[u64],
-    rows: &[usize],
+    automaton: &[u64],
     word: &[u8],
     table: &mut [u64],
     limit: u64,
 ) -> Tally
-    requires { ⌜ Setting (treeFrom nodes m) nodes m
-        (now lefts) (now closed) (now letters) (now specials) (now rows) (now word) (now table) ⌝ }
-    ensures { λ t. ⌜ SpecialsTurned (treeFrom nodes m) (now (word .entry)) limit (now (table .exit)) (t .count) (t .spent) ⌝ }
+    requires { ⌜ Setting (treeFrom nodes m) nodes m (now lefts) (now automaton) (now word) (length (now table)) ⌝ }
+    ensures { λ t. ⌜ SpecialsTurned (treeFrom nodes m) (now (word .entry)) (firstPart (now (automaton .entry))) limit
+        (now (table .entry)) (now (table .exit)) (t .count) (t .spent) ⌝ }
 {
     let mut c: u64 = 0;
     let mut i = 0;
@@ -92,20 +84,7 @@ fn fill_specials(
         let node = nodes[i];
         let k = node.kind;
         if is_special(k) {
-            let t = own(
-                nodes,
-                m,
-                lefts,
-                closed,
-                letters,
-                specials,
-                rows,
-                word,
-                table,
-                i,
-                c,
-                limit,
-            );
+            let t = own(nodes, m, lefts, automaton, word, table, i, c, limit);
             if t.spent {
                 return t;
             }
@@ -119,51 +98,32 @@ fn fill_specials(
     }
 }
 
-// All turns; the whole rule's block is the first, and its walks begin at the last node.
+// All turns; the whole rule's walks begin and end at the last node.
 pub fn fill_all(
     nodes: [Node; 64],
     m: usize,
     lefts: &[usize],
-    closed: &[u64],
-    letters: &[u64],
-    specials: &[u64],
-    rows: &[usize],
+    automaton: &[u64],
     word: &[u8],
     table: &mut [u64],
+    whole: usize,
     limit: u64,
 ) -> Tally
-    requires { ⌜ Setting (treeFrom nodes m) nodes m
-        (now lefts) (now closed) (now letters) (now specials) (now rows) (now word) (now table) ⌝ }
-    ensures { λ t. ⌜ AllTurned (treeFrom nodes m) (now (word .entry)) limit (now (table .exit)) (t .count) (t .spent) ⌝ }
+    requires { ⌜ Setting (treeFrom nodes m) nodes m (now lefts) (now automaton) (now word) (length (now table)) ⌝ }
+    requires { ⌜ WholeApart (treeFrom nodes m) (length (now word)) (firstPart (now automaton)) (length (now table)) whole ⌝ }
+    ensures { λ t. ⌜ AllTurned (treeFrom nodes m) (now (word .entry)) (firstPart (now (automaton .entry))) whole limit
+        (now (table .entry)) (now (table .exit)) (t .count) (t .spent) ⌝ }
 {
-    let t = fill_specials(
-        nodes,
-        m,
-        lefts,
-        closed,
-        letters,
-        specials,
-        rows,
-        word,
-        table,
-        limit,
-    );
+    let t = fill_specials(nodes, m, lefts, automaton, word, table, limit);
     if t.spent {
         return t;
     }
-    let e = 2 * m - 1;
-    rows::fill_block(
-        closed,
-        letters,
-        specials,
-        rows,
-        word,
-        table,
-        0,
-        e,
-        e,
-        false,
-        t.count,
-        limit,
-    )
+    let last = 2 * m - 1;
+    let target = Target {
+        first: whole,
+        left: last,
+        right: last,
+        complement: false,
+    };
+    walk::fill_block(automaton, word, table, target, t.count, limit)
 }

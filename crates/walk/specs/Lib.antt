@@ -1,4 +1,6 @@
--- What a walk goes by, its steps, and what it leaves.
+-- What a walk goes by, its steps, and the block of an owner.
 pub mod Automaton
--- What its private functions do.
-pub mod Levels
+pub mod Filled
+-- What the private functions do.
+pub mod Walks
+pub mod Starts

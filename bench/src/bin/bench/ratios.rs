@@ -40,10 +40,10 @@ pub fn print_targets(measured: &[Measured]) {
     }
     println!("Everyday rules, n = 255: {}", everyday(measured).count());
     let most = ratios.everyday;
-    print_target("greatest ratio", most, 2, "at most 2.0", most <= 2.0);
+    print_target("greatest ratio", most, 2, "at most 3.0", most <= 3.0);
     let time = greatest(everyday(measured).map(|one| one.times.proved));
     let what = "greatest proved time, in µs";
-    print_target(what, time, 1, "below 100", time < 100.0);
+    print_target(what, time, 1, "at most 50", time <= 50.0);
 }
 
 /// Writes the same ratios to the tuned judge, over the same rules.

@@ -19,5 +19,5 @@ wuz-judge-spec =
     (λ c.
     let o = c .before .before .before .before in
     let j = o .before .before .before in
-    judge-writes (j .judge .result) (j .before .before .if1 .left) (j .judge .ensures .0) (j .judge .ensures .1) (o .of-judge .ensures)
+    judge-writes (j .judge .result) (j .before .before .if1 .left) (j .judge .ensures .0) (j .judge .ensures .1 .0) (o .of-judge .ensures)
     (c .before .before .write-four .ensures)))

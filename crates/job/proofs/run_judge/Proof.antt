@@ -2,15 +2,15 @@
 use Prim.Native.Nat.{ℕ, _+_, _*_, _≤_}
 use native.Mathlib.Omega.{arith}
 use native.Mathlib.Nat.{mul-le-mul}
-use mathlib.Core.Path.{_≡_, sym, ap, subst, _∙_}
+use mathlib.Core.Path.{_≡_, sym, ap, _∙_}
 use mathlib.Core.List.{List}
 use lib.ListN.{length, take, replicate}
 use lib.Seq.{length-take-le}
-use borrow.Author.Needs.{needs}
 use Rattle.judge.specs.JudgeAnswer.{judgeAnswer, judgeValues}
 use Rattle.judge.specs.declared.Outcome.{Outcome}
 use Rattle.job.specs.JobAnswer.{JobResult, written, limitOf}
 use Rattle.job.proofs.Steps.{judge-stop, judge-pass}
+use borrow.Author.Needs.{needs}
 use Rattle.job.proofs.run_judge.Statement.{statement}
 use Rattle.job.proofs.run_judge.Tie as tie
 
@@ -22,19 +22,21 @@ spans-most n h =
     mul-le-mul a b
 
 -- the first block stands in the table
-block-long : (n : ℕ) (b : List ℕ) → n ≤ 255 → 8192 ≡ length b → (n + 1) * 4 ≡ length (take ((n + 1) * 4) b)
-block-long n b h e = let l : (n + 1) * 4 ≤ length b = omega arith in sym (length-take-le _ _ l)
+first-long : (first : ℕ) (b : List ℕ) → first ≤ 1024 → length b ≡ 8192 → length (take first b) ≡ first
+first-long first b h e = let l : first ≤ length b = omega arith in length-take-le first b l
 
 pub run-judge-spec : {M : Type 1} → statement M
 run-judge-spec =
     tie.close (tie.spec
     (λ c. search needs)
     (λ c. search needs)
+    -- mul-limit
     (λ c.
     let s = c .before .before .before in
     let n = length (s .args .word .now) in
     let p = spans-most n (s .pre .1) in
     omega arith)
+    -- mul-limit-2
     (λ c.
     let s = c .before .before .before in
     let n = length (s .args .word .now) in
@@ -45,6 +47,7 @@ run-judge-spec =
     (λ c. search needs)
     (λ c κs. search needs)
     (λ c κs. search needs)
+    -- returns
     (λ c.
     let a = c .before .before .before .before .before .before .before .before .before .args in
     let r = c .before .before .before .before .judge in
@@ -53,27 +56,30 @@ run-judge-spec =
     c .refused .ensures (a .out .now)
     ∙ judge-stop n (a .m) (a .k) (a .out .now) (judgeAnswer (a .rule .now) (a .word .now) (limitOf (a .m) n) (replicate 8192 0)) (r .result)
     (r .last .1 .1 .1 .0) (v .result) (r .ensures .0) (c .before .before .match .keys2) (v .ensures))
+    (λ c κs. search needs)
     (λ c. search needs)
-    (λ c. search needs)
-    (λ c. search needs)
+    -- slice-aggregate-list
     (λ c.
-    let t = c .before .before .before .before .before in
-    let s = t .before .before .before .before .before in
-    block-long (length (s .args .word .now)) (t .judge .last .1 .1 .1 .0) (s .pre .1) (sym (t .judge .kept .1 .1 .1 .0)))
+    let r = c .before .before .before .before .before .before .judge in
+    sym (first-long (c .before .block-length .result) (r .last .1 .1 .1 .0) (c .before .block-length .ensures .1) (r .kept .1 .1 .1 .0)))
+    -- list-requires
     (λ c κs.
-    let t = c .before .before .before .before .before .before in
+    let t = c .before .before .before .before .before .before .before in
     let s = t .before .before .before .before .before in
-    let h = s .pre .1 in
-    let e = block-long (length (s .args .word .now)) (t .judge .last .1 .1 .1 .0) h (sym (t .judge .kept .1 .1 .1 .0)) in
-    subst (λ (l : ℕ). l ≤ 1024) e (omega arith))
+    let f = c .before .before .block-length in
+    let e = first-long (f .result) (t .judge .last .1 .1 .1 .0) (f .ensures .1) (t .judge .kept .1 .1 .1 .0) in
+    let g = f .ensures .0 in
+    record { short = s .pre .1; within = omega arith })
     (λ c. search needs)
+    -- returns-2
     (λ c.
-    let t = c .before .before .before .before .before .before .before .before .before in
+    let t = c .before .before .before .before .before .before .before .before .before .before in
     let a = t .before .before .before .before .before .args in
-    let o = c .before .before .before .before .before .before .outcome .given in
+    let f = c .before .before .before .before .before .block-length in
+    let o = c .before .before .before .before .before .before .before .outcome .given in
     let n = length (a .word .now) in
     let b = t .judge .last .1 .1 .1 .0 in
     c .before .before .list .ensures
     ∙ ap (λ (x : JobResult). written x (a .out .now))
     (judge-pass n (a .m) (a .k) (o .0 .0) (o .0 .1 .0) b (judgeAnswer (a .rule .now) (a .word .now) (limitOf (a .m) n) (replicate 8192 0))
-    (ap (λ (x : Outcome). judgeValues x b) (sym (o .1)) ∙ t .judge .ensures .0))))
+    (f .ensures .0) (ap (λ (x : Outcome). judgeValues x b) (sym (o .1)) ∙ t .judge .ensures .0))))

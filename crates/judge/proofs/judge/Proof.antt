@@ -3,8 +3,8 @@ use native.Mathlib.Omega.{arith}
 use mathlib.Core.Path.{_∙_}
 use borrow.Author.Needs.{needs}
 use Rattle.rule.specs.declared.Outcome.the-variants.{EmptyText, LongText, ForeignByte, NoSentence, ManyNodes, ManySpecials}
-use Rattle.judge.proofs.Joined.{after-refusal, after-acceptance, judgeable}
-use Rattle.judge.proofs.Answered.{with-meaning}
+use Rattle.judge.proofs.Joined.{after-refusal, after-acceptance, rule-records}
+use Rattle.judge.proofs.Results.{clauses}
 use Rattle.judge.proofs.judge.Statement.{statement}
 use Rattle.judge.proofs.judge.Tie as tie
 
@@ -17,7 +17,8 @@ judge-spec =
     let a = c .before .before .before .before .before .before .before .before .before .args in
     let r = c .before .before .before .before .before .read in
     let o = c .before .before .outcome .given in
-    judgeable (a .rule .now) (a .word .now) (a .limit) (a .table .now) (r .result) (r .ensures .0) (o .0 .0) (o .0 .1 .0) (o .1))
+    rule-records (a .rule .now) (a .word .now) (a .limit) (a .table .now) (r .result) (r .ensures .0) (o .0 .0) (o .0 .1 .0) (o .1))
+    (λ c κs. search needs)
     (λ c. search needs)
     (λ c. search needs)
     (λ c. search needs)
@@ -26,40 +27,41 @@ judge-spec =
     (λ c. search needs)
     (λ c. search needs)
     (λ c.
-    let a = c .before .before .before .before .before .before .before .before .before .before .before .before .args in
-    let r = c .before .before .before .before .before .before .before .before .read in
-    let o = c .before .before .before .before .before .outcome .given in
-    with-meaning (c .before .before .judge-word .ensures
+    let h = c .before .before .before in
+    let o = h .before .before .before .outcome .given in
+    let r = h .before .before .before .before .before .before .read in
+    let a = h .before .before .before .before .before .before .before .before .before .before .args in
+    clauses (c .matched .ensures (h .match-spans .last .1 .1 .1 .1 .1 .0) ∙ h .match-spans .ensures .0
     ∙ after-acceptance (a .rule .now) (a .word .now) (a .limit) (a .table .now) (r .result) (r .ensures .0) (o .0 .0) (o .0 .1 .0) (o .1)))
     (λ c.
     let a = c .before .before .before .before .before .before .before .args in
     let r = c .before .before .before .read in
-    with-meaning (after-refusal (a .rule .now) (a .word .now) (a .limit) (a .table .now) (r .result) (r .ensures .0)
+    clauses (after-refusal (a .rule .now) (a .word .now) (a .limit) (a .table .now) (r .result) (r .ensures .0)
     EmptyText (c .enum-told .given .1) (omega arith)))
     (λ c.
     let a = c .before .before .before .before .before .before .before .args in
     let r = c .before .before .before .read in
-    with-meaning (after-refusal (a .rule .now) (a .word .now) (a .limit) (a .table .now) (r .result) (r .ensures .0)
+    clauses (after-refusal (a .rule .now) (a .word .now) (a .limit) (a .table .now) (r .result) (r .ensures .0)
     LongText (c .enum-told2 .given .1) (omega arith)))
     (λ c.
     let a = c .before .before .before .before .before .before .before .before .args in
     let r = c .before .before .before .before .read in
     let o = c .before .outcome2 .given in
-    with-meaning (after-refusal (a .rule .now) (a .word .now) (a .limit) (a .table .now) (r .result) (r .ensures .0)
+    clauses (after-refusal (a .rule .now) (a .word .now) (a .limit) (a .table .now) (r .result) (r .ensures .0)
     (ForeignByte (o .0 .0)) (o .1) (omega arith)))
     (λ c.
     let a = c .before .before .before .before .before .before .before .before .args in
     let r = c .before .before .before .before .read in
     let o = c .before .outcome3 .given in
-    with-meaning (after-refusal (a .rule .now) (a .word .now) (a .limit) (a .table .now) (r .result) (r .ensures .0)
+    clauses (after-refusal (a .rule .now) (a .word .now) (a .limit) (a .table .now) (r .result) (r .ensures .0)
     (NoSentence (o .0 .0)) (o .1) (omega arith)))
     (λ c.
     let a = c .before .before .before .before .before .before .before .args in
     let r = c .before .before .before .read in
-    with-meaning (after-refusal (a .rule .now) (a .word .now) (a .limit) (a .table .now) (r .result) (r .ensures .0)
+    clauses (after-refusal (a .rule .now) (a .word .now) (a .limit) (a .table .now) (r .result) (r .ensures .0)
     ManyNodes (c .enum-told3 .given .1) (omega arith)))
     (λ c.
     let a = c .before .before .before .before .before .before .before .args in
     let r = c .before .before .before .read in
-    with-meaning (after-refusal (a .rule .now) (a .word .now) (a .limit) (a .table .now) (r .result) (r .ensures .0)
+    clauses (after-refusal (a .rule .now) (a .word .now) (a .limit) (a .table .now) (r .result) (r .ensures .0)
     ManySpecials (c .enum-told4 .given .1) (omega arith))))

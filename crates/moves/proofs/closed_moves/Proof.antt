@@ -1,7 +1,7 @@
 -- `closed_moves` closes the free moves of the records. Assumes nothing.
-use mathlib.Core.Path.{sym}
-use borrow.Author.Needs.{needs}
+use mathlib.Core.Path.{ap, _∙_}
 use native.Mathlib.Omega.{arith}
+use lib.ListN.{length}
 use Rattle.moves.proofs.RecordLaws.{moves-low}
 use Rattle.moves.proofs.closed_moves.Statement.{statement}
 use Rattle.moves.proofs.closed_moves.Tie as tie
@@ -9,11 +9,17 @@ use Rattle.moves.proofs.closed_moves.Tie as tie
 pub closed-moves-spec : {M : Type 1} → statement M
 closed-moves-spec =
     tie.close (tie.spec
-    (λ c κs. (c .pre .0, c .pre .1))
-    (λ c. sym (c .before .free-moves .ensures .long))
-    (λ c. search needs)
+    -- add-moves-requires
+    (λ c κs. let p = c .before .before .pre in ((p .0 .0, ap length (p .0 .1)), p .1))
+    (λ c. omega arith)
+    -- close-requires
     (λ c κs.
-    let f = c .before .free-moves .ensures in
-    let p = c .before .before .pre in
-    (f .long, omega arith, moves-low (p .0) (p .1) f))
-    (λ c. record { single = _; moves = c .before .before .before .free-moves .ensures; closed = c .before .close .ensures }))
+    let f = c .before .before .before .add-moves .ensures in
+    let p = c .before .before .before .before .before .before .pre in
+    (f .long ∙ ap length (p .0 .1), omega arith, moves-low (p .0 .0) (p .1) (rw (p .0 .1) at f)))
+    (λ c. omega arith)
+    -- returns
+    (λ c.
+    let a = c .before .before .before .before .before .before in
+    let p = a .before .before .before .pre in
+    record { single = _; moves = rw (p .0 .1) at (a .add-moves .ensures); closed = c .before .before .close .ensures }))

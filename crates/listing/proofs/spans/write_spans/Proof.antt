@@ -1,42 +1,47 @@
--- `write_spans` writes the lines of a block's numbers one after another. Assumes nothing.
-use Prim.Native.Nat.{ℕ, _-_, _*_, _≤_, _<_}
-use mathlib.Core.Path.{_≡_, sym, ap}
-use borrow.Author.Needs.{needs}
+-- `write_spans` writes the lines of a block's rows one after another. Assumes nothing.
+use Prim.Native.Nat.{_+_, _-_, _≤_}
 use native.Mathlib.Omega.{arith}
-use lib.ListN.{length}
-use Rattle.listing.specs.Marked.{linesFrom}
-use Rattle.listing.specs.Written.{Written}
-use Rattle.listing.proofs.WrittenLaws.{written-none, written-then, written-long, written-as}
-use Rattle.listing.proofs.SpanLines.{lines-begin, numbers-add, numbers-within}
+use mathlib.Core.Path.{refl}
+use borrow.Author.Needs.{needs}
+use Rattle.listing.specs.Marked.{marks, blockLines}
+use Rattle.listing.proofs.WrittenLaws.{PartWritten, part-start, part-fits, part-more, part-long, part-done}
+use Rattle.listing.proofs.SpanLines.{block-over, block-row, block-length}
 use Rattle.listing.proofs.spans.write_spans.Statement.{statement}
 use Rattle.listing.proofs.spans.write_spans.Tie as tie
 
 pub write-spans-spec : {M : Type 1} → statement M
 write-spans-spec =
     tie.close (tie.spec
-    (λ block out₀ at end₀ q₀ out end q. (q ≤ length block) × Written out₀ at (linesFrom block (64 * q) 0) out end)
-    (λ block out₀ at end₀ q₀ out end q. length block - q)
-    (λ c.
-    let s = c .before .before in
-    (omega arith, written-as (sym (lines-begin (s .args .block .now) 0)) (written-none (s .args .out .now) (s .args .at))))
+    (λ block n out₀ at end₀ i₀ out end i. PartWritten out₀ at (blockLines (marks n block) n 0) (blockLines (marks n block) n i) out end)
+    (λ block n out₀ at end₀ i₀ out end i. n + 1 - i)
+    -- loop-holds
+    (λ c. part-start (c .before .before .args .out .now) (c .before .before .args .at) refl)
+    -- read-row-requires
+    (λ c κs. (c .before .before .before .before .pre .0, omega arith))
+    (λ c. search needs)
+    -- write-row-requires
     (λ c κs.
-    let s = c .before .before .before .before .before in
-    let r = c .before .before .loop in
-    let w = r .inv .1 in
-    let h : r .q < length (s .args .block .now) = omega (arith, c .before .loop-test .taken) in
-    let f = numbers-within (s .args .block .now) (r .q) (length (s .args .block .now)) h in
-    ((omega (arith, h), s .pre .0), omega (arith, s .pre .1, w .upto, written-long w, f)))
+    let s = c .before .before .before .before .before .before .before in
+    let a = s .args in
+    let l = c .before .before .before .before .loop in
+    let r = c .before .before .read-row in
+    let t : l .i ≤ a .n = omega arith in
+    let e = block-length (a .block .now) (r .result) (a .n) (l .i) (s .pre .0 .short) t (r .ensures) in
+    ((search needs, t, s .pre .0 .short), omega (arith, part-fits (l .inv) (s .pre .1))))
     (λ c. search needs)
     (λ c. search needs)
+    -- loop-again
     (λ c.
-    let s = c .before .before .before .before .before .before .before .before in
-    let r = c .before .before .before .before .before .loop in (
-      omega (arith, c .before .before .before .before .loop-test .taken),
-      written-as (sym (numbers-add (s .args .block .now) (r .q))) (written-then (r .inv .1) (c .before .before .write-number .ensures)),
-    ))
-    (λ c. written-long (c .before .loop .inv .1))
+    let s = c .before .before .before .before .before .before .before .before .before .before in
+    let a = s .args in
+    let l = c .before .before .before .before .before .before .before .loop in
+    let r = c .before .before .before .before .before .read-row in
+    let e = block-row (a .block .now) (r .result) (a .n) (l .i) (s .pre .0 .short) (omega arith) (r .ensures) in
+    part-more (blockLines (marks (a .n) (a .block .now)) (a .n) (l .i + 1)) (l .inv) e (c .before .before .write-row .ensures))
+    -- same-length
+    (λ c. part-long (c .before .loop .inv))
+    -- returns
     (λ c.
-    let s = c .before .before .before .before in
-    let r = c .before .loop in
-    let e : r .q ≡ length (s .args .block .now) = omega arith in
-    written-as (ap (λ (n : ℕ). linesFrom (s .args .block .now) (64 * n) 0) e) (r .inv .1)))
+    let a = c .before .before .before .before .args in
+    let l = c .before .loop in
+    part-done (l .inv) (block-over (marks (a .n) (a .block .now)) (a .n) (l .i) (omega arith))))

@@ -1,5 +1,5 @@
 -- `merge_row` pairs s with what k is paired with. Assumes nothing.
-use borrow.Author.Needs.{needs}
+use native.Mathlib.Omega.{arith}
 use Rattle.moves.proofs.ClosingLaws.{through-law}
 use Rattle.moves.proofs.closure.merge_row.Statement.{statement}
 use Rattle.moves.proofs.closure.merge_row.Tie as tie
@@ -7,9 +7,9 @@ use Rattle.moves.proofs.closure.merge_row.Tie as tie
 pub merge-row-spec : {M : Type 1} → statement M
 merge-row-spec =
     tie.close (tie.spec
-    (λ c. search needs) (λ c. search needs) (λ c. search needs) (λ c. search needs)
-    (λ c. search needs) (λ c. search needs) (λ c. search needs) (λ c. search needs)
-    (λ c κs. search needs) (λ c. search needs) (λ c. search needs) (λ c κs. search needs) (λ c. search needs)
+    (λ c. omega arith) (λ c. omega arith) (λ c. omega arith) (λ c. omega arith)
+    (λ c. omega arith) (λ c. omega arith) (λ c. omega arith) (λ c. omega arith)
+    (λ c κs. omega arith) (λ c. omega arith) (λ c. omega arith) (λ c κs. omega arith) (λ c. omega arith)
     -- returns
     (λ c.
     let second = c .before .before in

@@ -1,6 +1,5 @@
 -- `add_letter` adds one node's bit, by its letter. Assumes nothing.
 use mathlib.Core.Path.{ap}
-use borrow.Author.Needs.{needs}
 use native.Mathlib.Omega.{arith}
 use Rattle.moves.proofs.RecordLaws.{isLetter, letter-put, letter-none}
 use Rattle.moves.proofs.entries.add_letter.Statement.{statement}
@@ -8,11 +7,11 @@ use Rattle.moves.proofs.entries.add_letter.Tie as tie
 
 pub add-letter-spec : {M : Type 1} → statement M
 add-letter-spec =
-    tie.close (tie.spec (λ c. search needs)
-    (λ c. search needs) (λ c. search needs) (λ c. search needs) (λ c. search needs) (λ c κs. search needs)
-    (λ c. search needs) (λ c. search needs) (λ c. search needs) (λ c. search needs) (λ c. search needs) (λ c. search needs)
-    (λ c. search needs)
-    (λ c. search needs)
+    tie.close (tie.spec (λ c. omega arith)
+    (λ c. omega arith) (λ c. omega arith) (λ c. omega arith) (λ c. omega arith) (λ c κs. omega arith)
+    (λ c. omega arith) (λ c. omega arith) (λ c. omega arith) (λ c. omega arith) (λ c. omega arith) (λ c. omega arith)
+    (λ c. omega arith)
+    (λ c. omega arith)
     (λ c.
     let p = c .before .before in
     rw (p .before .before .before .k .given .1) (letter-put _ _ (omega arith) (p .put .ensures .1)))

@@ -1,115 +1,70 @@
--- `level` comes to what is reached at one number, and passes it on. Assumes nothing.
-use borrow.Author.Needs.{needs}
+-- `level` comes to what is reached at one number. Assumes nothing.
+use mathlib.Core.Path.{_∙_}
+use lib.ListN.{length}
 use native.Mathlib.Omega.{arith}
-use Rattle.walk.specs.Automaton.{automaton, Room}
-use Rattle.walk.proofs.ExitLaws.{due-law, exits-in}
-use Rattle.walk.proofs.LevelLaws.{full-law, level-law}
+use Rattle.walk.specs.Automaton.{automatonOf}
+use Rattle.walk.proofs.LevelLaws.{full-at, level-begun, level-law, level-full}
+use borrow.Author.Needs.{needs}
 use Rattle.walk.proofs.level.level.Statement.{statement}
 use Rattle.walk.proofs.level.level.Tie as tie
 
 pub level-spec : {M : Type 1} → statement M
 level-spec =
     tie.close (tie.spec
-    (λ c κs. search needs) (λ c. search needs)
-    -- add-exits-requires
+    -- due-exits-requires
     (λ c κs.
-    let p =
-    c .before .before .before .before .before .before .before .before .before .before .before .before .before .before
-    .before .pre in
-    let k = p .1 .1 .1 .1 in
-    let f = k .1 .0 in
-    ((f .two, search needs), λ s l d. p .0 .special s l (k .0 s l (f .known s l d))))
-    (λ c. search needs)
-    -- add-due-requires
-    (λ c κs.
-    let u = c .before .before .before .before .before in
-    let p =
-    u .before .before .before .before .before .before .before .before .before .before .before .before .before .before
-    .before .before .pre in
+    let p = c .before .before .before .before .before .before .before .before .before .before .before .pre in
     let w = p .0 .word in
-    let l = p .1 .1 .0 in
-    let k = p .1 .1 .1 .1 in
-    let f = k .1 .0 in
-    let two = u .add-exits .ensures .long in
-    (omega arith, (λ s l d. p .0 .special s l (k .0 s l d), (f .two, (f .known, exits-in (u .add-exits .ensures))))))
+    let l = p .1 .0 in
+    let f = p .1 .1 .1 .0 in
+    ((l .2, l .3, f .two, omega arith), (λ s k d. p .0 .special s k (p .1 .1 .0 s k d), full-at _ _ (l .4) f)))
+    -- slice-aggregate-add-marked
+    (λ c. search needs)
+    -- add-marked-requires
+    (λ c κs. let p = c .before .before .before .before .before .before .before .before .before .before .before .before .before .pre in let w = p .0 .word in let l = p .1 .0 in let d = c .before .due-exits .ensures .long in omega arith)
+    -- slice-aggregate-cached-closure
+    (λ c. search needs)
+    -- cached-closure-requires
+    (λ c κs.
+    let p = c .before .before .before .before .before .before .before .before .before .before .before .before .before .before .before .before .before .pre in
+    let w = p .0 .word in
+    let l = p .1 .0 in
+    let d = c .before .before .before .before .before .due-exits .ensures .long in
+    let m = c .before .before .before .add-marked .ensures .long in
+    ((l .0, omega arith, omega arith), (p .0 .reflexive, (p .0 .transitive, p .1 .1 .1 .1))))
+    -- slice-aggregate-saturate
     (λ c. search needs)
     -- saturate-requires
     (λ c κs.
-    let u = c .before .before .before .before .before in
-    let v = u .before .before .before .before .before .before in
-    let p =
-    v .before .before .before .before .before .before .before .before .before .before .before .before .before .before
-    .before .before .pre in
+    let p = c .before .before .before .before .before .before .before .before .before .before .before .before .before .before .before .before .before .before .before .before .before .before .before .before .pre in
+    let a = c .before .before .before .before .before .before .before .before .before .before .before .before .before .before .before .before .before .before .before .before .before .before .before .before .args in
     let r = p .0 in
-    let w = r .word in
-    let l = p .1 .1 .0 in
-    let f = p .1 .1 .1 .1 .1 in
-    let k = u .add-due .ensures .long in
-    let k′ = v .add-exits .ensures .long in
-    let two = f .0 .two in
-    let room : Room _ _ _ =
-    record { few = λ i. let f = r .room .few i in omega arith; within = λ i. let f = r .room .within i in omega arith } in (
-      (r .closed, r .specials, r .rows),
-      (
-        (omega arith, p .1 .0 .1, two, l .0, omega arith),
-        (
-          r .reflexive,
-          (
-            r .transitive,
-            (
-              r .special,
-              (room, (f .0 .left, (λ s l d. u .add-due .ensures .old _ (exits-in (v .add-exits .ensures) s l d), f .1))),
-            ),
-          ),
-        ),
-      ),
-    ))
+    let l = p .1 .0 in
+    let f = p .1 .1 .1 .0 in
+    let b = level-begun (automatonOf (a .automaton .now) (a .word .now) (a .table .now)) r (a .j) (l .4) _ _ _ _ (p .1 .1 .0) (l .3) f
+    (c .before .before .before .before .before .before .before .before .before .before .before .before .due-exits .ensures) (c .before .before .before .before .before .before .before .before .before .before .add-marked .ensures) (c .before .before .before .before .before .before .cached-closure .ensures .0) in
+    ((l .0, search needs, l .4), ((l .2, l .3, f .two), (r .reflexive, (r .transitive, (r .special, (r .room, b)))))))
+    -- same-length
     (λ c. search needs)
-    -- intersect-requires
-    (λ c κs.
-    let r =
-    c .before .before .before .before .before .before .before .before .before .before .before .before .before .before
-    .before .before .before .before .before .before .before .before .before .before .before .before .before .before
-    .before .before .before .before .before .before .before .pre .0 .specials in
-    omega arith)
+    -- same-length-2
     (λ c. search needs)
-    -- unite-requires
-    (λ c κs.
-    let q =
-    c .before .before .before .before .before .before .before .before .before .before .before .before .before .before
-    .before .before .before .before .before .before .before .before .before .before .before .before .before .before
-    .before .before .before .before .before .before .before .before .before .before .pre .1 .0 in
-    omega arith)
+    -- same-length-3
     (λ c. search needs)
-    -- pass-requires
-    (λ c κs.
-    let p =
-    c .before .before .before .before .before .before .before .before .before .before .before .before .before .before
-    .before .before .before .before .before .before .before .before .before .before .before .before .before .before
-    .before .before .before .before .before .before .before .before .before .before .before .before .before .before
-    .before .pre in
-    let r = p .0 in
-    let l = p .1 .1 .0 in
-    ((r .letters, p .1 .0 .0, search needs), ((l .0, r .word, l .1), r .letter)))
-    (λ c. search needs) (λ c. search needs) (λ c. search needs) (λ c. search needs) (λ c. search needs)
+    -- same-length-4
+    (λ c. search needs)
     -- returns
     (λ c.
-    let o = c .before .before .before .before .before .before .before in
-    let i = o .before .before .before in
-    let t = i .before .before .before .before .before .before .before .before in
-    let u = t .before .before .before .before .before .before in
-    let v = u .before .before .before .before .before .before in
-    let n = v .before .before .before in
-    let s = n .before .before .before .before .before .before .before .before .before .before .before .before .before in
-    let a = s .args in
-    let p = s .pre in
-    let l = p .1 .1 .0 .0 in
-    let k = p .1 .1 .1 in
-    let f = k .1 .1 .0 in
-    let e = t .saturate .ensures in
-    let z = automaton (a .closed .now) (a .letters .now) (a .specials .now) (a .rows .now) (a .word .now) (a .table .now) in (
-      level-law z (p .0) (a .j) l _ _ _ (k .0) (k .1 .0) (n .states-at .ensures)
-          (due-law (a .j) _ l f (v .add-exits .ensures) (u .add-due .ensures)) (e .0) (i .intersect .ensures) (o .unite .ensures)
-          (a .count) (a .limit) _ _ (c .before .before .pass .ensures),
-      (full-law (a .j) _ (e .1 .0) (f .known) (i .intersect .ensures) (o .unite .ensures), e .1 .1),
+    let p = c .before .before .before .before .before .before .before .before .before .before .before .before .before .before .before .before .before .before .before .before .before .before .before .before .before .before .before .before .before .before .before .pre in
+    let a = c .before .before .before .before .before .before .before .before .before .before .before .before .before .before .before .before .before .before .before .before .before .before .before .before .before .before .before .before .before .before .before .args in
+    let r = p .0 in
+    let l = p .1 .0 in
+    let f = p .1 .1 .1 .0 in
+    let t = automatonOf (a .automaton .now) (a .word .now) (a .table .now) in (
+      level-law t r (a .j) (l .4) _ _ _ _ (p .1 .1 .0) (l .3) f
+          (c .before .before .before .before .before .before .before .before .before .before .before .before .before .before .before .before .before .before .before .due-exits .ensures) (c .before .before .before .before .before .before .before .before .before .before .before .before .before .before .before .before .before .add-marked .ensures) (c .before .before .before .before .before .before .before .before .before .before .before .before .before .cached-closure .ensures .0) (c .before .before .before .before .before .before .saturate .ensures),
+      (
+        level-full t r (a .j) (l .4) _ _ _ _ (p .1 .1 .0) (l .3) f
+            (c .before .before .before .before .before .before .before .before .before .before .before .before .before .before .before .before .before .before .before .due-exits .ensures) (c .before .before .before .before .before .before .before .before .before .before .before .before .before .before .before .before .before .add-marked .ensures) (c .before .before .before .before .before .before .before .before .before .before .before .before .before .cached-closure .ensures .0) (c .before .before .before .before .before .before .saturate .ensures),
+        c .before .before .before .before .before .before .before .before .before .before .before .before .before .cached-closure .ensures .1,
+      ),
     )))

@@ -1,0 +1,3 @@
+-- Laws of marks and of rows.
+pub mod MarkLaws
+pub mod RowLaws

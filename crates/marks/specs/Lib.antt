@@ -1,0 +1,3 @@
+-- Marked places, and the row of a start.
+pub mod Marks
+pub mod Rows

@@ -1,0 +1,70 @@
+// The marks of one walk, and the row of its start that they show. The places at number j, where j events are used, are elements 2 * j and 2 * j + 1
+// of the marks, one bit a state.
+pub mod rows;
+
+ghost use mathlib.Core.Path.{_≡_};
+ghost use mathlib.Core.Bool.{true};
+ghost use mathlib.Core.Logic.{_↔_};
+ghost use Prim.Native.Nat.{ℕ, _+_, _*_, _≤_, _<_};
+ghost use lib.ListN.{length};
+ghost use Rattle.bits.specs.Bit.{hasBit, bitAt, tallyBelow, Adds};
+ghost use Rattle.marks.specs.Marks.{PlaceOf, StoredAt, MarkedAt, Finished};
+
+// What an owner's walks fill: they begin before the exits left and right and end at them; the first number of the block; whether it has
+// the spans at which they end or those at which they do not.
+pub struct Target {
+    pub first: usize,
+    pub left: usize,
+    pub right: usize,
+    pub complement: bool,
+}
+
+// Adds the states that are marked at number j to a set.
+pub fn add_marked(marks: &[u64], j: usize, set: &mut [u64])
+    requires { ⌜ (length (now marks) ≡ 512) × (j < 256) × (length (now set) ≡ 2) ⌝ }
+    ensures { λ _. ⌜ Adds (now (set .entry)) (MarkedAt (now (marks .entry)) j) (now (set .exit)) ⌝ }
+{
+    bits::merge(set, 0, marks[2 * j]);
+    bits::merge(set, 1, marks[2 * j + 1]);
+}
+
+// Marks the states of a set at number j.
+pub fn mark(marks: &mut [u64], set: &[u64], j: usize)
+    requires { ⌜ (length (now marks) ≡ 512) × (length (now set) ≡ 2) × (j < 256) ⌝ }
+    ensures { λ _. ⌜ Adds (now (marks .entry)) (PlaceOf (now (set .entry)) j) (now (marks .exit)) ⌝ }
+{
+    bits::merge(marks, 2 * j, set[0]);
+    bits::merge(marks, 2 * j + 1, set[1]);
+}
+
+// Stores a set at number j in place of what is marked there: no join, so that a compiler sees what is never read of the marks, and need not clear it.
+pub fn store(marks: &mut [u64], set: &[u64], j: usize)
+    requires { ⌜ (length (now marks) ≡ 512) × (length (now set) ≡ 2) × (j < 256) ⌝ }
+    ensures { λ _. ⌜ StoredAt (now (marks .entry)) (now (set .entry)) j (now (marks .exit)) ⌝ }
+{
+    marks[2 * j] = set[0];
+    marks[2 * j + 1] = set[1];
+}
+
+// The number of ones.
+fn ones(x: u64) -> u64
+    ensures { λ r. ⌜ (r ≡ tallyBelow 64 (λ (b : ℕ). hasBit b x)) × (r ≤ 64) ⌝ }
+{
+    u64::count_ones(x) as u64
+}
+
+// How many places are marked at number j.
+pub fn count_marked(marks: &[u64], j: usize) -> u64
+    requires { ⌜ (length (now marks) ≡ 512) × (j < 256) ⌝ }
+    ensures { λ r. ⌜ (r ≡ tallyBelow 128 (λ (s : ℕ). bitAt (now (marks .entry)) (128 * j + s))) × (r ≤ 128) ⌝ }
+{
+    ones(marks[2 * j]) + ones(marks[2 * j + 1])
+}
+
+// Tells that a walk goes no further: nothing is marked at number j, and no special node is open.
+pub fn is_finished(marks: &[u64], opened: &[u64], j: usize) -> bool
+    requires { ⌜ (length (now marks) ≡ 512) × (length (now opened) ≡ 2) × (j < 256) ⌝ }
+    ensures { λ r. ⌜ (r ≡ true) ↔ Finished (now (marks .entry)) (now (opened .entry)) j ⌝ }
+{
+    (marks[2 * j] | marks[2 * j + 1]) | (opened[0] | opened[1]) == 0
+}

@@ -1,7 +1,0 @@
--- Sums over the numbers below a bound.
-pub mod Sums
--- Laws that the proofs of its functions cite.
-mod RowLaws
-mod Openings
-mod StartLaws
-mod Filling

@@ -1,0 +1,2 @@
+-- Where the bits of spans stand.
+pub mod Layout

@@ -1,0 +1,154 @@
+-- A start whose walk goes no further than its initial states. Assumes nothing.
+use mathlib.Core.Path.{_≡_, refl, sym, ap, ap₂, _∙_}
+use mathlib.Core.Bool.{Bool, true, false, _&&_, false≢true, and-false}
+use mathlib.Core.Logic.{_⊎_, inl, inr, ⊎-elim}
+use mathlib.Core.List.{List}
+use Prim.Native.Nat.{ℕ, _+_, _-_, _*_, _/_, _%_, _≤_, _<_}
+use native.Mathlib.Omega.{arith}
+use lib.Dec.{eqb, leb}
+use lib.ListN.{length, getD, replicate, set, length-set}
+use lib.Seq.{getD-set-same, getD-set-other}
+use borrow.Author.Tests.{eq-eqb, ne-eqb, le-leb, lt-leb}
+use Rattle.bits.specs.Bit.{hasBit, bitAt, tallyBelow, Adds}
+use Rattle.bits.proofs.Digits.{same-or-not, below-or-not}
+use Rattle.bits.proofs.Laws.{zeros-bit}
+use Rattle.bits.proofs.Tally.{tally-none, tally-add}
+use Rattle.moves.specs.Reached.{Reached, start, after}
+use Rattle.levels.specs.Sets.{AllLed, LetterExit}
+use Rattle.table.specs.Layout.{blockAt, RowSpan}
+use Rattle.marks.specs.declared.Target.{Target}
+use Rattle.walk.specs.Automaton.{Automaton, FreeStep, LetterStep, SpanStep, Step, Ready}
+use Rattle.walk.specs.Filled.{StartsAt}
+use Rattle.marks.specs.Marks.{StoredAt}
+use Rattle.marks.specs.Rows.{decide, ended, met, rowOf}
+use Rattle.walk.specs.Starts.{Initial, EndsThere, EndedRow, Started}
+
+-- ---- the initial states
+
+pub initial-law : {c b a : List ℕ} (o : Target) → (0 < o .left) × (o .left < 128) × (0 < o .right) × (o .right < 128)
+    → Adds (replicate 2 0) (λ (q : ℕ). (q ≡ o .left - 1) ⊎ (q ≡ o .right - 1)) b → AllLed c b a → Initial c o a
+initial-law {c} {b} o n p h s l = (
+  λ e.
+      let z = h .only s l e in
+      ⊎-elim (λ (k : bitAt (replicate 2 0) (z .by) ≡ true). absurd (false≢true (sym (zeros-bit 2 (z .by)) ∙ k)))
+      (⊎-elim (λ (k : z .by ≡ o .left - 1). inl (ap (λ (x : ℕ). bitAt c (128 * x + s)) (sym k) ∙ z .leads))
+      (λ (k : z .by ≡ o .right - 1). inr (ap (λ (x : ℕ). bitAt c (128 * x + s)) (sym k) ∙ z .leads))) (p .only (z .by) (z .there)),
+  ⊎-elim (λ e. h .all (o .left - 1) s (omega arith) l (p .new (o .left - 1) (inl refl)) e)
+      (λ e. h .all (o .right - 1) s (omega arith) l (p .new (o .right - 1) (inr refl)) e),
+)
+
+-- ---- marks at one number
+
+module _ {a m : List ℕ} {i : ℕ} (stored : StoredAt (replicate 512 0) a i m) where
+  at-number : (q : ℕ) → bitAt m q ≡ true → q / 128 ≡ i
+  at-number q e =
+      ⊎-elim (λ (h : q / 128 ≡ i). h)
+      (λ (h : q / 128 ≡ i → ⊥). absurd (false≢true (sym (stored .other q h ∙ zeros-bit 512 q) ∙ e))) (same-or-not (q / 128) i)
+
+  elsewhere : (q : ℕ) → (q / 128 ≡ i → ⊥) → bitAt m q ≡ false
+  elsewhere q h = stored .other q h ∙ zeros-bit 512 q
+
+  -- the row has at most the span of no event
+  pub one-row : (o : Target) (n k : ℕ) → o .complement ≡ false → o .left < 128 → i ≤ n → (eqb k i && met m o i) ≡ rowOf m o i n k
+  unfolding rowOf
+  one-row o n k c l h =
+      ⊎-elim
+      (λ (e : k ≡ i). rw (e, eq-eqb i i refl, le-leb i i (omega arith), le-leb i n h, c) (plain (bitAt m (128 * i + o .left)) (bitAt m (128 * i + o .right))))
+      (λ (e : k ≡ i → ⊥).
+      let z : bitAt m (128 * k + o .left) ≡ false = elsewhere (128 * k + o .left) (λ (d : (128 * k + o .left) / 128 ≡ i). e (omega arith)) in
+      rw (ne-eqb k i e, z, c) (sym (ap (leb i k &&_) (and-false (leb k n)) ∙ and-false (leb i k))))
+      (same-or-not k i)
+    where
+      plain : (s t : Bool) → (s && t) ≡ decide s t false
+      plain true true = refl
+      plain true false = refl
+      plain false t = refl
+
+  marks-size : (n : ℕ) → i ≤ n → tallyBelow (128 * (n + 1)) (bitAt m) ≡ tallyBelow 128 (λ (s : ℕ). bitAt m (128 * i + s))
+  marks-size n h =
+      let k = 128 * (n - i) in
+      let e : 128 * (n + 1) ≡ 128 * i + (128 + k) = omega arith in
+      let u = tally-none (128 * i) (bitAt m) (λ s l. elsewhere s (λ d. omega arith)) in
+      let w = tally-none k (λ (s : ℕ). bitAt m (128 * i + (128 + s))) (λ s _. elsewhere (128 * i + (128 + s)) (λ d. omega arith)) in
+      ap (λ (z : ℕ). tallyBelow z (bitAt m)) e
+      ∙ omega (arith, tally-add (128 * i) (128 + k) (bitAt m), tally-add 128 k (λ (s : ℕ). bitAt m (128 * i + s)))
+
+-- ---- a walk that goes no further
+
+module _ {t : Automaton} (o : Target) {i : ℕ} {a : List ℕ} (ready : Ready t) (within : i ≤ length (t .word))
+    (ends : (0 < o .left) × (o .left < 128) × (0 < o .right) × (o .right < 128)) (initial : Initial (t .closed) o a)
+    (d : EndsThere (t .letters) (t .specials) (t .word) i a) where
+  module _ {m : List ℕ} (stored : StoredAt (replicate 512 0) a i m) where
+    free-from : (s q : ℕ) → s < 128 → q / 128 ≡ i → bitAt (t .closed) (128 * s + q % 128) ≡ true → Step t (128 * i + s) q
+    free-from s q l n h =
+        let k : (128 * i + s) % 128 ≡ s = omega arith in
+        inl record { number = omega arith; move = rw k h }
+
+    only-marked : (q : ℕ) → bitAt m q ≡ true → Reached (StartsAt o i) (Step t) q
+    only-marked q e =
+        let n = at-number stored q e in
+        ⊎-elim (λ h. after (start (inl refl)) (free-from (o .left - 1) q (omega arith) n h))
+        (λ h. after (start (inr refl)) (free-from (o .right - 1) q (omega arith) n h))
+        (initial (q % 128) (omega arith) .0 (sym (stored .here q n) ∙ e))
+
+    -- a free move leads from an initial state to another
+    follows : (s u : ℕ) → s < 128 → u < 128 → bitAt (t .closed) (128 * s + u) ≡ true → bitAt a s ≡ true → bitAt a u ≡ true
+    follows s u l k h e =
+        initial u k .1
+        (⊎-elim (λ z. inl (ready .transitive s (o .left - 1) u l (omega arith) k z h))
+        (λ z. inr (ready .transitive s (o .right - 1) u l (omega arith) k z h)) (initial s l .0 e))
+
+    step-stays : (p q : ℕ) → bitAt m p ≡ true → Step t p q → bitAt m q ≡ true
+    step-stays p q e u =
+        let n = at-number stored p e in
+        let h = sym (stored .here p n) ∙ e in
+        ⊎-elim
+        (λ (f : FreeStep (t .closed) p q).
+        stored .here q (f .number ∙ n) ∙ follows (p % 128) (q % 128) (omega arith) (omega arith) (f .move) h)
+        (λ v.
+        ⊎-elim
+        (λ (f : LetterStep (t .letters) (t .word) p q).
+        let w = f .within in
+        absurd (d .silent (omega arith) (p % 128 + 1) record {
+          state = p % 128;
+          small = omega arith;
+          exit = refl;
+          there = h;
+          letter = rw n at (f .event);
+        }))
+        (λ (f : SpanStep (t .specials) (t .firsts) (t .table) (length (t .word)) p q).
+        absurd (d .plain (p % 128) (omega arith) h (f .special)))
+        v)
+        u
+
+    begins : (s : ℕ) → s < 128 → (bitAt (t .closed) (128 * (o .left - 1) + s) ≡ true) ⊎ (bitAt (t .closed) (128 * (o .right - 1) + s) ≡ true)
+        → bitAt m (128 * i + s) ≡ true
+    begins s l h =
+        let k : (128 * i + s) % 128 ≡ s = omega arith in
+        stored .here (128 * i + s) (omega arith) ∙ ap (bitAt a) k ∙ initial s l .1 h
+
+    all-marked : {q : ℕ} → Reached (StartsAt o i) (Step t) q → bitAt m q ≡ true
+    all-marked {q} (start s) =
+        ⊎-elim
+        (λ (e : q ≡ 128 * i + (o .left - 1)).
+        ap (bitAt m) e ∙ begins (o .left - 1) (omega arith) (inl (ready .reflexive (o .left - 1) (omega arith))))
+        (λ (e : q ≡ 128 * i + (o .right - 1)).
+        ap (bitAt m) e ∙ begins (o .right - 1) (omega arith) (inr (ready .reflexive (o .right - 1) (omega arith))))
+        s
+    all-marked {q} (after {p} r u) = step-stays p q (all-marked r) u
+
+  pub ended-started : {b : List ℕ} {count limit c : ℕ} {spent : Bool}
+      → EndedRow (t .table) a o i (length (t .word)) count limit b c spent → Started t o i count limit b c spent
+  ended-started s =
+      let z = marks-size (s .marked) (length (t .word)) within in
+      record {
+        marks = s .marks;
+        only = only-marked (s .marked);
+        all = λ _ q r. all-marked (s .marked) r;
+        counted = λ f. let e = s .counted f in omega arith;
+        full = λ f. let e = s .full f in omega arith;
+        spends = s .spends;
+        bounded = s .bounded;
+        row = s .row;
+        kept = s .kept;
+      }
