@@ -27,7 +27,7 @@ pub record Dues (x v : List ℕ) (j : ℕ) (d a b : List ℕ) : Type 0 where
 
 -- an exit that is due of the entries d is one of those of e
 due-of : {x d e : List ℕ} {j q : ℕ} (u : DueExit x d j q) → bitAt e (u .entry) ≡ true → DueExit x e j q
-due-of u k = record { entry = u .entry; exit = u .exit; small = u .small; known = k; bit = u .bit }
+due-of u k = record { entry = u .entry; exit = u .exit; small = u .small; isOpen = k; bit = u .bit }
 
 module _ (x v : List ℕ) (j : ℕ) where
   -- the exits of full nodes are there
@@ -41,7 +41,7 @@ module _ (x v : List ℕ) (j : ℕ) where
         entry = u .entry;
         exit = u .exit;
         small = u .small;
-        there = sym (same (u .entry) (u .small)) ∙ u .known;
+        there = sym (same (u .entry) (u .small)) ∙ u .isOpen;
       };
       only = λ q e. inl e;
       long = refl;
@@ -50,8 +50,8 @@ module _ (x v : List ℕ) (j : ℕ) where
 
   pub dues-done : {a b d : List ℕ} {s : ℕ} → Dues x v j d a b → Missing v d s → s ≡ 128 → Adds a (DueExit x v j) b
   dues-done g m e =
-      adds-as (λ q u. due-of u (g .inside (u .entry) (u .small) (u .known)))
-      (λ q u. due-of u (m .none e (u .entry) (u .small) (u .known))) (g .adds)
+      adds-as (λ q u. due-of u (g .inside (u .entry) (u .small) (u .isOpen)))
+      (λ q u. due-of u (m .none e (u .entry) (u .small) (u .isOpen))) (g .adds)
 
   pub dues-turn : {a b c d e : List ℕ} {s : ℕ} → Dues x v j d a b → Missing v d s → (s ≡ 128 → ⊥) → Put d s e
       → Adds b (PutIf x (128 * s + j) (s + 1)) c → Dues x v j e a c
@@ -63,12 +63,12 @@ module _ (x v : List ℕ) (j : ℕ) where
         inside = λ r k i. ⊎-elim (λ (y : bitAt d r ≡ true). g .inside r k y) (λ (y : r ≡ s). rw y (m .there l)) (put-adds p .only r i);
         adds = adds-as
             (λ q u.
-            ⊎-elim (λ (y : DueExit x d j q). due-of y (put-adds p .old (y .entry) (y .known)))
-            (λ y. record { entry = s; exit = y .0; small = l; known = p .same; bit = y .1 }) u)
+            ⊎-elim (λ (y : DueExit x d j q). due-of y (put-adds p .old (y .entry) (y .isOpen)))
+            (λ y. record { entry = s; exit = y .0; small = l; isOpen = p .same; bit = y .1 }) u)
             (λ q u.
             ⊎-elim (λ (z : bitAt d (u .entry) ≡ true). inl (due-of u z))
             (λ (z : u .entry ≡ s). inr (rw z at (u .exit), rw z at (u .bit)))
-            (put-adds p .only (u .entry) (u .known)))
+            (put-adds p .only (u .entry) (u .isOpen)))
             (adds-then (g .adds) h);
       }
 
@@ -80,7 +80,7 @@ due-law {x} {v} {f} {j = j} full g h =
     ⊎-elim
     (λ (z : ExitOf f q).
     let k = full (z .entry) (z .small) (z .there) in
-    record { entry = z .entry; exit = z .exit; small = z .small; known = k .0; bit = k .1 })
+    record { entry = z .entry; exit = z .exit; small = z .small; isOpen = k .0; bit = k .1 })
     (λ (z : DueExit x v j q). z) d)
     (λ q d. inr d)
     (adds-then g h)
@@ -129,12 +129,12 @@ module _ (x : List ℕ) (i k : ℕ) where
         (below-or-not m (64 * w))
 
     -- a number that is not left, in the row's number w
-    pub gap-law : r < 64 → Gap x i k (64 * w + r)
-    gap-law l =
+    pub gap-law : w < 4 → r < 64 → Gap x i k (64 * w + r)
+    gap-law v l =
         let h = or-neither (hasBit r (getD x (4 * i + w) 0)) (hasBit r below)
         (sym (has-or r (getD x (4 * i + w) 0) below) ∙ f .fresh l) in
         let e : 256 * i + (64 * w + r) ≡ 64 * (4 * i + w) + r = omega arith in
-        record { left = gap-left; stops = λ _. (g .rest r (h .1), ap (bitAt x) e ∙ word-bit x (4 * i + w) r l ∙ h .0) }
+        record { within = omega arith; left = gap-left; stops = λ _. (g .rest r (h .1), ap (bitAt x) e ∙ word-bit x (4 * i + w) r l ∙ h .0) }
 
     pub gap-turn : 64 ≤ r → Gapless x i k 0 (w + 1)
     gap-turn l = record {
@@ -145,7 +145,7 @@ module _ (x : List ℕ) (i k : ℕ) where
     }
 
   pub gap-none : {below w : ℕ} → Gapless x i k below w → 4 ≤ w → Gap x i k 256
-  gap-none g h = record { left = λ m l n. g .left m l (omega arith); stops = λ l. absurd (omega arith) }
+  gap-none g h = record { within = omega arith; left = λ m l n. g .left m l (omega arith); stops = λ l. absurd (omega arith) }
 
 pub put-full-law : {x f g : List ℕ} (s k n r : ℕ) → s % 2 ≡ 0 → Gap x (s / 2) k r → n < r → Put f s g → PutFull x s k n f g
 put-full-law {x} {f} s k n r e gap l p = record {

@@ -132,6 +132,14 @@ zero-number a w k e =
     fails true f = absurd (f refl)
     fails false f = refl
 
+-- a set without states is two zeros
+pub zero-set : (a : List ℕ) → getD a 0 0 < 2 ^ 64 → getD a 1 0 < 2 ^ 64 → ((s : ℕ) → s < 128 → bitAt a s ≡ true → ⊥)
+    → bitOr (getD a 0 0) (getD a 1 0) ≡ 0
+zero-set a x y none =
+    let p = zero-number a 0 x (λ s l. none (64 * 0 + s) (omega arith)) in
+    let q = zero-number a 1 y (λ s l. none (64 * 1 + s) (omega arith)) in
+    rw (p, q) refl
+
 disjoint-law : {a b r : List ℕ} → Common a b r → (getD r 0 0 < 2 ^ 64) × (getD r 1 0 < 2 ^ 64)
     → (bitOr (getD r 0 0) (getD r 1 0) ≡ 0) ↔ Disjoint a b
 disjoint-law {a} {b} {r} m small = (
@@ -140,11 +148,7 @@ disjoint-law {a} {b} {r} m small = (
       by-half (λ (s : ℕ). bitAt r s ≡ true → ⊥)
       (λ s l d. no-bit s (getD r 0 0) (z .0) (sym (low-bit r s l) ∙ d))
       (λ s l d. no-bit s (getD r 1 0) (z .1) (sym (high-bit r s l) ∙ d)) s l (m .both s l x y),
-  λ e.
-      let none : (s : ℕ) → s < 128 → bitAt r s ≡ true → ⊥ = λ s l d. e s l (m .left s l d) (m .right s l d) in
-      let x = zero-number r 0 (small .0) (λ s l. none (64 * 0 + s) (omega arith)) in
-      let y = zero-number r 1 (small .1) (λ s l. none (64 * 1 + s) (omega arith)) in
-      rw (x, y) refl,
+  λ e. zero-set r (small .0) (small .1) (λ s l d. e s l (m .left s l d) (m .right s l d)),
 )
 
 pub meets-law : (a b : List ℕ) → (getD a 0 0 < 2 ^ 64) × (getD a 1 0 < 2 ^ 64)

@@ -24,7 +24,7 @@ pub record DueExit (exits opened : List ℕ) (j t : ℕ) : Type 0 where
   pub entry : ℕ
   pub exit : t ≡ entry + 1
   pub small : entry < 128
-  pub known : bitAt opened entry ≡ true
+  pub isOpen : bitAt opened entry ≡ true
   pub bit : bitAt exits (128 * entry + j) ≡ true
 
 -- the node of the entry s is left at every number from k to n
@@ -38,7 +38,7 @@ FullAt x v f j = (s : ℕ) → s < 128 → bitAt f s ≡ true → (bitAt v s ≡
 -- the full nodes' entries before number j: open nodes that are left at every number from there on
 pub record Full (exits opened full : List ℕ) (j n : ℕ) : Type 0 where
   pub two : length full ≡ 2
-  pub known : Among full opened
+  pub areOpen : Among full opened
   pub left : (s : ℕ) → s < 128 → bitAt full s ≡ true → LeftAt exits s j n
 
 -- ---- special nodes entered

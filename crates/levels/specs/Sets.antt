@@ -23,6 +23,10 @@ Among a b = (s : ℕ) → s < 128 → bitAt a s ≡ true → bitAt b s ≡ true
 abbrev pub Disjoint : (a b : List ℕ) → Type 0
 Disjoint a b = (s : ℕ) → s < 128 → bitAt a s ≡ true → bitAt b s ≡ true → ⊥
 
+-- a has no state
+abbrev pub NoState : (a : List ℕ) → Type 0
+NoState a = (s : ℕ) → bitAt a s ≡ true → ⊥
+
 -- the states of the set are entries, which are even
 abbrev pub Entries : (set : List ℕ) → Type 0
 Entries a = (s : ℕ) → s < 128 → bitAt a s ≡ true → s % 2 ≡ 0

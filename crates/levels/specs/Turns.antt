@@ -71,8 +71,9 @@ pub record ExitOf (set : List ℕ) (t : ℕ) : Type 0 where
   pub small : entry < 128
   pub there : bitAt set entry ≡ true
 
--- node i is left at every number from k on that is below r, and not at r
+-- node i is left at every number from k on that is below r, and not at r, or r is 256
 pub record Gap (exits : List ℕ) (i k r : ℕ) : Type 0 where
+  pub within : r ≤ 256
   pub left : (m : ℕ) → k ≤ m → m < r → bitAt exits (256 * i + m) ≡ true
   pub stops : r < 256 → (k ≤ r) × (bitAt exits (256 * i + r) ≡ false)
 

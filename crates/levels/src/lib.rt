@@ -13,17 +13,20 @@ ghost use Prim.Native.Nat.{ℕ, _+_, _*_, _%_, _<_, _≤_};
 ghost use lib.ListN.{length};
 ghost use Rattle.bits.specs.Bit.{bitAt};
 ghost use Rattle.levels.specs.Parts.{closedPart, letterPart, specialPart, firstPart};
-ghost use Rattle.levels.specs.Sets.{Disjoint, Entries, Reflexive, Transitive, AllLed, Exactly, LetterExit};
+ghost use Rattle.levels.specs.Sets.{NoState, Disjoint, Entries, Reflexive, Transitive, AllLed, Exactly, LetterExit};
 ghost use Rattle.levels.specs.Exits.{FullAt, DueExit, Room, Begun, Saturated};
 
-// The numbers of an automaton's run, and where its parts begin, behind the closed moves.
-const NUMBERS: usize = 834;
+// How many numbers an automaton's run has.
+pub const NUMBERS: usize = 834;
 
-const LETTERS: usize = 256;
+// Where the entries of the letters' nodes begin in it, behind the closed moves.
+pub const LETTERS: usize = 256;
 
-const SPECIALS: usize = 768;
+// Where those of the special nodes begin.
+pub const SPECIALS: usize = 768;
 
-const FIRSTS: usize = 770;
+// Where the first numbers of the special nodes' blocks begin.
+pub const FIRSTS: usize = 770;
 
 // The states that free moves lead to from those of a set.
 pub fn closure(automaton: &[u64], set: &[u64]) -> [u64; 2]
@@ -33,6 +36,14 @@ pub fn closure(automaton: &[u64], set: &[u64]) -> [u64; 2]
     ensures { λ r. ⌜ AllLed (closedPart (now (automaton .entry))) (now (set .entry)) r ⌝ }
 {
     free::follow(&automaton[..LETTERS], set)
+}
+
+// Whether a set has no state.
+pub fn is_empty(set: &[u64]) -> bool
+    requires { ⌜ length (now set) ≡ 2 ⌝ }
+    ensures { λ r. ⌜ (r ≡ true) ↔ NoState (now (set .entry)) ⌝ }
+{
+    set[0] | set[1] == 0
 }
 
 // Whether a set has the entry of a special node.
@@ -51,7 +62,7 @@ pub fn due_exits(exits: &[u64], opened: &[u64], full: &[u64], j: usize) -> [u64;
     ensures { λ r. ⌜ Exactly (DueExit (now (exits .entry)) (now (opened .entry)) j) r ⌝ }
 {
     // Most walks have no open node.
-    if opened[0] | opened[1] == 0 {
+    if is_empty(opened) {
         return [0u64; 2];
     }
     exits::due(exits, opened, full, j)

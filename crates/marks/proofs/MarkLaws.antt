@@ -13,7 +13,7 @@ use Rattle.bits.proofs.Digits.{same-or-not}
 use Rattle.bits.proofs.Laws.{adds-as}
 use Rattle.bits.proofs.Tally.{tally-same, tally-add}
 use Rattle.moves.proofs.RowLaws.{low-bit, high-bit, row-low, row-high, by-half, row-merged}
-use Rattle.levels.proofs.SetLaws.{or-zero, no-bit, zero-number}
+use Rattle.levels.proofs.SetLaws.{or-zero, no-bit, zero-number, zero-set}
 use Rattle.marks.specs.Marks.{PlaceOf, StoredAt, MarkedAt, NoneAt, Finished}
 
 pub place-law : (e : List ℕ) {a b c : List ℕ} (j : ℕ) → Merged a (2 * j) (getD e 0 0) b → Merged b (2 * j + 1) (getD e 1 0) c
@@ -101,6 +101,5 @@ finished-zero m v j a b f =
     let n : 64 * (2 * j + 1) + r ≡ 128 * j + (64 + r) = omega arith in f .marked (64 + r) (omega arith) (rw n at e) in
     let w = zero-number m (2 * j) (a (2 * j)) low in
     let x = zero-number m (2 * j + 1) (a (2 * j + 1)) high in
-    let y = zero-number v 0 (b 0) (λ r l. f .coming (64 * 0 + r) (omega arith)) in
-    let z = zero-number v 1 (b 1) (λ r l. f .coming (64 * 1 + r) (omega arith)) in
-    rw (w, x, y, z) refl
+    let y = zero-set v (b 0) (b 1) (f .coming) in
+    rw (w, x, y) refl

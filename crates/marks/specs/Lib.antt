@@ -1,3 +1,4 @@
--- Marked places, and the row of a start.
+-- Marked places, the row of a start, and the start that needs no walk.
 pub mod Marks
 pub mod Rows
+pub mod Ends

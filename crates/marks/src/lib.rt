@@ -1,5 +1,6 @@
-// The marks of one walk, and the row of its start that they show. The places at number j, where j events are used, are elements 2 * j and 2 * j + 1
-// of the marks, one bit a state.
+// The marks of one walk, the row of its start that they show, and the start that needs no walk. The places at number j, where j events are
+// used, are elements 2 * j and 2 * j + 1 of the marks, one bit a state.
+pub mod ends;
 pub mod rows;
 
 ghost use mathlib.Core.Path.{_≡_};
@@ -17,6 +18,12 @@ pub struct Target {
     pub left: usize,
     pub right: usize,
     pub complement: bool,
+}
+
+// What has been counted, or the limit where it is spent: where the next places would be more than it allows.
+pub struct Tally {
+    pub count: u64,
+    pub spent: bool,
 }
 
 // Adds the states that are marked at number j to a set.

@@ -120,7 +120,7 @@ fn in_set(set: &[u64], x: usize) -> u64
 }
 
 // The row of start i of a target that is no complement, after a walk that left no marks but at number i.
-pub fn first_row(marks: &[u64], target: Target, i: usize) -> [u64; 4]
+pub fn row_at_start(marks: &[u64], target: Target, i: usize) -> [u64; 4]
     requires { ⌜ (length (now marks) ≡ 512) × (i < 256) × (target .left < 128) × (target .right < 128) ⌝ }
     ensures { λ r. ⌜ ((k : ℕ) → k < 256 → bitAt r k ≡ (eqb k i && met (now (marks .entry)) target i)) ⌝ }
 {

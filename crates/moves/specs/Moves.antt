@@ -5,7 +5,7 @@ use mathlib.Core.Path.{_≡_}
 use mathlib.Core.Logic.{_⊎_}
 use mathlib.Core.List.{List}
 use mathlib.Core.Bool.{Bool, true, false}
-use lib.ListN.{getD, replicate}
+use lib.ListN.{length, getD, replicate}
 use Rattle.bits.specs.Bit.{bitAt, Adds}
 use Rattle.regex.specs.declared.Kind.{Kind}
 use Rattle.regex.specs.declared.Kind.the-variants.{Empty, Epsilon, Letter, Union, Intersection, Concatenation, Complement, Star}
@@ -96,6 +96,7 @@ pub record ClosedMoves (nodes : List Node) (lefts : List ℕ) (m : ℕ) (c : Lis
   pub single : List ℕ
   pub moves : Adds (replicate 256 0) (RecordMove nodes lefts m) single
   pub closed : Closed single c
+  pub long : length c ≡ 256
 
 -- ---- entries
 

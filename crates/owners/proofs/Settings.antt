@@ -100,16 +100,16 @@ relent {t} {nodes} {m} {lefts} {run} {w} e s = subst (Setting t nodes m lefts ru
 -- ---- what `fill` leaves
 module _ {t : Tree} {w : Word} {whole special limit : ℕ} {firsts lent b : List ℕ} {c : ℕ} {spent : Bool}
     (p : AllTurned t w firsts whole limit lent b c spent) (long : length b ≡ length lent) where
-  pub filled-over : {e : List ℕ} → spent ≡ true → e ≡ replicate (length b) 0 ++ drop (length b) b
-      → FilledTable t w limit whole special lent e limit true
-  filled-over {e} s z =
+  pub filled-cleared : {e : List ℕ} → spent ≡ true → e ≡ replicate (length b) 0 ++ drop (length b) b
+      → FilledTable t w limit whole special lent e c spent
+  filled-cleared {e} s z =
       record {
         over = λ _. (
-          refl,
-          refl,
+          s,
+          p .spends s,
           z ∙ ap (replicate (length b) 0 ++_) (drop-length b) ∙ append-nil (replicate (length b) 0) ∙ ap (λ (n : ℕ). replicate n 0) long,
         );
-        within = λ h. absurd (omega (arith, p .full s));
+        within = λ h. absurd (omega (arith, p .over s));
       }
 
   pub filled-within : {nodes : List Node} {m : ℕ} → spent ≡ false → Fillable t nodes m w (length lent) whole special

@@ -27,7 +27,7 @@ use Rattle.owners.specs.Blocks.{WholeApart, BlocksBelow, OffBlocks}
 use Rattle.owners.specs.Turns.{isComplement, ownWalks, Setting, Turned, SpecialsTurned, AllTurned}
 use Rattle.owners.proofs.PartLaws.{kindOf, Headed, headed, kind-is, special-is}
 use Rattle.owners.proofs.SumLaws.{walksBelow, below-all, below-none, below-more, below-up}
-use Rattle.owners.proofs.Walkers.{targetOf, Walker, filled-full, filled-counted, filled-block, whole-walker, complement-walker}
+use Rattle.owners.proofs.Walkers.{targetOf, Walker, filled-over, filled-counted, filled-block, whole-walker, complement-walker}
 use Rattle.owners.proofs.Walkers.{intersection-walker, complement-apart, intersection-apart}
 
 sum-add : (f g : ℕ → ℕ) (k : ℕ) → sumTo k (λ i. f i + g i) ≡ sumTo k f + sumTo k g
@@ -111,7 +111,8 @@ module _ {t : Tree} {nodes : List Node} {m : ℕ} {lefts run w : List ℕ} {numb
               done = λ e. again f (filled-block (own .walker) f e (S .short));
               outside = λ q n. f .outside q (n special-here);
               counted = λ e. filled-counted (own .walker) f e ∙ ap (count +_) (own .count);
-              full = λ e. let z = filled-full (own .walker) f e in let y = own .count in omega arith;
+              over = λ e. let z = filled-over (own .walker) f e in let y = own .count in omega arith;
+              spends = f .spends;
               bounded = f .bounded;
             }
           where
@@ -152,7 +153,8 @@ module _ {t : Tree} {nodes : List Node} {m : ℕ} {lefts run w : List ℕ} {numb
               (below-or-not y i);
           outside = λ q _. refl;
           counted = λ _. let e = plain-walks (partAt t i) s in omega arith;
-          full = λ e. absurd (false≢true e);
+          over = λ e. absurd (false≢true e);
+          spends = λ e. absurd (false≢true e);
           bounded = k;
         }
 
@@ -173,7 +175,8 @@ module _ {t : Tree} {nodes : List Node} {m : ℕ} {lefts run w : List ℕ} {numb
         done = λ e y l v. held-kept (S .short) (d y l v) (λ q i. g .outside q (λ z. blocks-part (p .apart y v) z i));
         outside = λ e q h o. g .outside q h ∙ s .outside e₀ q o;
         counted = λ e. let z = filled-counted k g e in (omega arith, g .bounded);
-        full = λ e. let z = filled-full k g e in omega arith;
+        over = λ e. let z = filled-over k g e in omega arith;
+        spends = g .spends;
       }
 
 -- ---- the loop over the records: the first i had their turns, and the table was lent as a
@@ -216,7 +219,7 @@ module _ {t : Tree} {w : Word} {firsts : List ℕ} {limit : ℕ} {a : List ℕ} 
     pub turning-spent : {b : List ℕ} {c : ℕ} {spent : Bool} → i < size t → spent ≡ true → Turned t w firsts i count limit lent b c spent
         → SpecialsTurned t w firsts limit a b c spent
     turning-spent h e s =
-        let z = s .full e in
+        let z = s .over e in
         let y = below-more w t i in
         let k = g .counted in
         let u = below-up w t (i + 1) (size t) (omega arith) in
@@ -225,7 +228,8 @@ module _ {t : Tree} {w : Word} {firsts : List ℕ} {limit : ℕ} {a : List ℕ} 
           done = λ d. absurd (true≢false (sym e ∙ d));
           outside = λ d. absurd (true≢false (sym e ∙ d));
           counted = λ d. absurd (true≢false (sym e ∙ d));
-          full = λ _. omega arith;
+          over = λ _. omega arith;
+          spends = s .spends;
           bounded = s .bounded;
         }
 
@@ -240,7 +244,8 @@ module _ {t : Tree} {w : Word} {firsts : List ℕ} {limit : ℕ} {a : List ℕ} 
           done = λ _. subst (BlocksBelow w lent t firsts) e (g .done);
           outside = λ _. g .outside;
           counted = λ _. g .counted ∙ ap (walksBelow w t) e ∙ below-all w t;
-          full = λ d. absurd (false≢true d);
+          over = λ d. absurd (false≢true d);
+          spends = λ d. absurd (false≢true d);
           bounded = g .bounded;
         }
 
@@ -254,5 +259,6 @@ specials-spent e s =
       done = λ d. absurd (true≢false (sym e ∙ d));
       outside = λ d. absurd (true≢false (sym e ∙ d));
       counted = λ d. absurd (true≢false (sym e ∙ d));
-      full = λ d. let z = s .full d in omega arith;
+      over = λ d. let z = s .over d in omega arith;
+      spends = s .spends;
     }

@@ -67,9 +67,9 @@ module _ {g : Automaton} {o : Target} {v : Tree} {c : ℕ → ℕ} (k : Walker g
       count-most (k .owner) i (length (g .word)) (c i) (k .reach i) (k .many i l) (f .marks i) (λ q e. k .same i q l .0 (f .only i q e))
 
   -- where the limit is reached, the walks have more places
-  pub filled-full : spent ≡ true → limit < count + sumTo (length (g .word)) c
-  filled-full s =
-      let a = f .full s in
+  pub filled-over : spent ≡ true → limit < count + sumTo (length (g .word)) c
+  filled-over s =
+      let a = f .over s in
       omega (arith, a .1, visits-most (f .marks) c (length (g .word)) (f .stop) (a .0) marks-most)
 
   module _ (s : spent ≡ false) where

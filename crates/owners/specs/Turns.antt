@@ -57,7 +57,8 @@ pub record Turned (t : Tree) (w : Word) (firsts : List ℕ) (i count limit : ℕ
   pub done : spent ≡ false → BlocksBelow w b t firsts (i + 1)
   pub outside : (q : ℕ) → (SpecialAt t i → InBlock (blockAt (getD firsts i 0) (length w)) q → ⊥) → bitAt b q ≡ bitAt a q
   pub counted : spent ≡ false → c ≡ count + ownWalks w (partAt t i)
-  pub full : spent ≡ true → limit < count + ownWalks w (partAt t i)
+  pub over : spent ≡ true → limit < count + ownWalks w (partAt t i)
+  pub spends : spent ≡ true → c ≡ limit
   pub bounded : c ≤ limit
 
 -- b is the table a after all special nodes had their turns
@@ -65,7 +66,8 @@ pub record SpecialsTurned (t : Tree) (w : Word) (firsts : List ℕ) (limit : ℕ
   pub done : spent ≡ false → BlocksBelow w b t firsts (size t)
   pub outside : spent ≡ false → (q : ℕ) → OffBlocks t (length w) firsts q → bitAt b q ≡ bitAt a q
   pub counted : spent ≡ false → c ≡ specialWalks w t
-  pub full : spent ≡ true → limit < specialWalks w t
+  pub over : spent ≡ true → limit < specialWalks w t
+  pub spends : spent ≡ true → c ≡ limit
   pub bounded : c ≤ limit
 
 -- b is the table a after the whole rule's turn
@@ -75,4 +77,5 @@ pub record AllTurned (t : Tree) (w : Word) (firsts : List ℕ) (whole limit : �
   pub outside : spent ≡ false → (q : ℕ) → (InBlock (blockAt whole (length w)) q → ⊥) → OffBlocks t (length w) firsts q
       → bitAt b q ≡ bitAt a q
   pub counted : spent ≡ false → (c ≡ fullCount w t) × (c ≤ limit)
-  pub full : spent ≡ true → limit < fullCount w t
+  pub over : spent ≡ true → limit < fullCount w t
+  pub spends : spent ≡ true → c ≡ limit

@@ -1,5 +1,9 @@
 // The automaton of a rule, which its owners' walks go by: one run of four parts.
 use crate::blocks::first_numbers;
+use levels::FIRSTS;
+use levels::LETTERS;
+use levels::NUMBERS;
+use levels::SPECIALS;
 use regex::Node;
 ghost use mathlib.Core.Path.{_≡_};
 ghost use Prim.Native.Nat.{_^_, _≤_};
@@ -8,18 +12,6 @@ ghost use Rattle.levels.specs.Parts.{firstPart};
 ghost use Rattle.moves.specs.Moves.{SidesBefore};
 ghost use Rattle.owners.specs.Blocks.{FirstNumbers};
 ghost use Rattle.owners.specs.Building.{Built};
-
-// Where the entries of the letters' nodes begin in the run, behind the closed moves.
-const LETTERS: usize = 256;
-
-// Where those of the special nodes begin.
-const SPECIALS: usize = 768;
-
-// Where the first numbers of the special nodes' blocks begin.
-pub const FIRSTS: usize = 770;
-
-// How many numbers the run has.
-pub const NUMBERS: usize = 834;
 
 // Fills a cleared run with the automaton of a rule with m nodes whose first sides are in lefts, for a word of n events, where the blocks of
 // its special nodes begin at number `special` of the table.

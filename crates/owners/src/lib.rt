@@ -4,12 +4,12 @@ mod blocks;
 mod sides;
 mod turns;
 
-use crate::automaton::NUMBERS;
 use crate::automaton::build;
 use crate::sides::left_sides;
 use crate::turns::fill_all;
+use levels::NUMBERS;
+use marks::Tally;
 use regex::Node;
-use walk::Tally;
 ghost use lib.ListN.{length};
 ghost use Rattle.owners.specs.Filling.{treeFrom, Fillable, FilledTable};
 
@@ -35,10 +35,7 @@ pub fn fill(
     if t.spent {
         let n = table.len();
         bits::clear(table, n);
-        return Tally {
-            count: limit,
-            spent: true,
-        };
+        return t;
     }
     t
 }

@@ -1,10 +1,10 @@
 // The owners' turns: a special node's block is filled when those within its sides are, and the whole rule's last.
-use crate::automaton::FIRSTS;
+use levels::FIRSTS;
+use marks::Tally;
 use marks::Target;
 use moves::is_special;
 use regex::Kind;
 use regex::Node;
-use walk::Tally;
 ghost use mathlib.Core.Path.{_≡_};
 ghost use mathlib.Core.Bool.{true};
 ghost use Prim.Native.Nat.{_<_, _≤_};

@@ -32,7 +32,7 @@ in-number a k = refl
 pub read-law : (table row : List ℕ) (b : Block) (i at : ℕ) → at ≡ b .first + 4 * i → getD row 0 0 ≡ getD table at 0
     → getD row 1 0 ≡ getD table (at + 1) 0 → getD row 2 0 ≡ getD table (at + 2) 0 → getD row 3 0 ≡ getD table (at + 3) 0
     → (k : ℕ) → k < 256 → bitAt row k ≡ rowBit table b i k
-unfolding rowBit
+unfolding rowBit spanBit
 read-law table row b i at e p q r s k l =
     let z : at + 0 ≡ at = omega arith in
     let m : (64 * b .first + (256 * i + k)) % 64 ≡ k % 64 = omega arith in

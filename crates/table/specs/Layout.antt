@@ -39,7 +39,7 @@ pub record SpanAt (b : Block) (q : ℕ) : Type 0 where
 
 -- bit k of row i as it is read: where i ≤ k ≤ n, that of span (i, k)
 unfoldable pub rowBit : List ℕ → Block → ℕ → ℕ → Bool
-rowBit table b i k = bitAt table (64 * b .first + position i k)
+rowBit table b i k = bitAt table (spanBit b i k)
 
 -- bit q of the table is that of a span of the row, from start i
 pub record RowSpan (b : Block) (i : ℕ) (row : List ℕ) (q : ℕ) : Type 0 where

@@ -275,7 +275,7 @@ module _ {t : Automaton} {o : Target} {count limit : ℕ} where
     pub filling-spent : spent ≡ true → Filled t o count limit b′ c′ spent
     unfolding marks′
     filling-spent f =
-        let e = s .full f in
+        let e = s .over f in
         let d = g .counted in
         let h = g .bounded in
         let m = visits-same (g .marks) i (s .marks) (length (t .word)) in
@@ -290,7 +290,7 @@ module _ {t : Automaton} {o : Target} {count limit : ℕ} where
           all = λ j q l u. rw (with-other (g .marks) i (s .marks) j (λ (v : j ≡ i). omega arith)) (g .all j q l u);
           fits = omega arith;
           counted = λ z. absurd (true≢false (sym f ∙ z));
-          full = λ _. (k, omega arith);
+          over = λ _. (k, omega arith);
           spends = s .spends;
           bounded = s .bounded;
           rows = λ r j l u v. same (spanBit (blockOf t o) r j) ∙ rows′ r j l u v;
@@ -314,7 +314,7 @@ module _ {t : Automaton} {o : Target} {count limit : ℕ} where
         all = g .all;
         fits = omega arith;
         counted = λ _. d ∙ ap (λ (n : ℕ). count + visits (g .marks) (length (t .word)) n) e;
-        full = λ f. absurd (false≢true f);
+        over = λ f. absurd (false≢true f);
         spends = λ f. absurd (false≢true f);
         bounded = g .bounded;
         rows = g .rows;

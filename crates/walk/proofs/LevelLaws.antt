@@ -70,8 +70,8 @@ coming-of q o l =
     }
 
 -- the entry of an exit to come is of an open node
-pub known-entry : (x v : List ℕ) (q : ℕ) → Pending (toCome x v) q → q / 128 < 256 → bitAt v (q % 128 - 1) ≡ true
-known-entry x v q u l =
+pub open-entry : (x v : List ℕ) (q : ℕ) → Pending (toCome x v) q → q / 128 < 256 → bitAt v (q % 128 - 1) ≡ true
+open-entry x v q u l =
     let c = coming-of q (u .odd) l in
     let b : toCome x v (c .place) ≡ true = ap (toCome x v) (c .is) ∙ u .bit in
     ap (bitAt v) (sym (c .entry)) ∙ and-first (bitAt v (2 * (c .place / 256))) (bitAt x (c .place)) b
@@ -80,7 +80,7 @@ known-entry x v q u l =
 
 -- full nodes are left at number j
 pub full-at : {x v f : List ℕ} (j n : ℕ) → j ≤ n → Full x v f j n → FullAt x v f j
-full-at j n l u s k e = (u .known s k e, u .left s k e j (omega arith) l)
+full-at j n l u s k e = (u .areOpen s k e, u .left s k e j (omega arith) l)
 
 module _ (t : Automaton) (ready : Ready t) (j : ℕ) (jn : j ≤ length (t .word)) (a x v f : List ℕ) (inside : Among v (t .specials))
     (two : length v ≡ 2) (full : Full x v f j (length (t .word))) {d todo w : List ℕ} (due : Exactly (DueExit x v j) d)
@@ -105,13 +105,13 @@ module _ (t : Automaton) (ready : Ready t) (j : ℕ) (jn : j ≤ length (t .word
         let z = led .only s (m .from) h in
         led .all (z .by) r (z .small) (m .to) (z .there) (ready .transitive s (z .by) r (m .from) (z .small) (m .to) (z .leads) (m .move));
     exits = λ s l h.
-        let k = full .known s l h in
+        let k = full .areOpen s l h in
         let ev = ready .special s l (inside s l k) in
         todo-in (s + 1) (omega arith) (marked .old (s + 1) (due .new (s + 1) record {
           entry = s;
           exit = refl;
           small = l;
-          known = k;
+          isOpen = k;
           bit = full .left s l h j (omega arith) jn;
         }));
   }
@@ -125,7 +125,7 @@ module _ (t : Automaton) (ready : Ready t) (j : ℕ) (jn : j ≤ length (t .word
         (λ (z : DueExit x v j s).
         let k = z .small in
         let ex = z .exit in
-        let ev = ready .special (z .entry) (z .small) (inside (z .entry) (z .small) (z .known)) in
+        let ev = ready .special (z .entry) (z .small) (inside (z .entry) (z .small) (z .isOpen)) in
         let m : (128 * j + s) % 128 - 1 ≡ z .entry = omega arith in
         let nr : (128 * j + s) / 128 ≡ j = omega arith in
         let od : (128 * j + s) % 2 ≡ 1 = omega arith in
@@ -136,7 +136,7 @@ module _ (t : Automaton) (ready : Ready t) (j : ℕ) (jn : j ≤ length (t .word
           record {
             odd = od;
             bit = rw (m, nr) (and-both (bitAt v (2 * ((128 * z .entry + j) / 256))) (bitAt x (128 * z .entry + j))
-                (ap (bitAt v) o ∙ z .known) (z .bit));
+                (ap (bitAt v) o ∙ z .isOpen) (z .bit));
           },
         )))
         (λ (z : MarkedAt a j s). start (inl (z .there)))
@@ -228,7 +228,7 @@ module _ (t : Automaton) (ready : Ready t) (j : ℕ) (jn : j ≤ length (t .word
           let k : bitAt f (2 * (q / 256)) ≡ true = was-full (2 * (q / 256)) l (h .entry) (h .special) z in
           let p : q ≡ 128 * (2 * (q / 256)) + q % 256 = omega arith in
           kept-as q z
-          ∙ and-both (bitAt v (2 * (q / 256))) (bitAt x q) (full .known (2 * (q / 256)) l k)
+          ∙ and-both (bitAt v (2 * (q / 256))) (bitAt x q) (full .areOpen (2 * (q / 256)) l k)
           (ap (bitAt x) p ∙ full .left (2 * (q / 256)) l k (q % 256) lo hi))
           (entered-or-not (2 * (q / 256)) l);
       only = λ q i h.
@@ -256,13 +256,13 @@ module _ (t : Automaton) (ready : Ready t) (j : ℕ) (jn : j ≤ length (t .word
           let jw = ready .word in
           let c = coming-of p (h .odd) (omega arith) in
           let ex = c .exit in
-          let k = known-entry x v p h (omega arith) in
+          let k = open-entry x v p h (omega arith) in
           let b : toCome x v (c .place) ≡ true = ap (toCome x v) (c .is) ∙ h .bit in
           sat .all (p % 128) (omega arith) (todo-in (p % 128) (omega arith) (marked .old (p % 128) (due .new (p % 128) record {
             entry = p % 128 - 1;
             exit = ex;
             small = omega arith;
-            known = k;
+            isOpen = k;
             bit = rw m at (ap (bitAt x) (sym (c .is)) ∙ and-second (bitAt v (2 * (c .place / 256))) (bitAt x (c .place)) b);
           })));
       only = λ s l h. lift (sat .only s l h);
@@ -276,12 +276,12 @@ module _ (t : Automaton) (ready : Ready t) (j : ℕ) (jn : j ≤ length (t .word
     pub level-full : Full y u g (j + 1) (length (t .word))
     level-full = record {
       two = sat .lengths .1 ∙ full .two;
-      known = λ s l h.
-          ⊎-elim (λ (z : bitAt f s ≡ true). sat .opened .old s (full .known s l z)) (λ z. sat .opened .new s (z .0)) (sat .full s l .0 h);
+      areOpen = λ s l h.
+          ⊎-elim (λ (z : bitAt f s ≡ true). sat .opened .old s (full .areOpen s l z)) (λ z. sat .opened .new s (z .0)) (sat .full s l .0 h);
       left = λ s l h.
           ⊎-elim
           (λ (z : bitAt f s ≡ true) i lo hi.
-          let ev = ready .special s l (inside s l (full .known s l z)) in
+          let ev = ready .special s l (inside s l (full .areOpen s l z)) in
           let jw = ready .word in
           let o : 2 * ((128 * s + i) / 256) ≡ s = let q = node-of s i ev (omega arith) in omega arith in
           sat .kept (128 * s + i) (λ k. true≢false (sym z ∙ ap (bitAt f) (sym o) ∙ k .fresh)) ∙ full .left s l z i (omega arith) hi)

@@ -40,7 +40,7 @@ started {m = m} o i h w d f k = record {
   only = λ q e. reached-from (λ p z. start (starts-only o i h p z)) (w .only q e);
   all = λ s q z. w .all (d ∙ s) q (reached-from (λ p u. start (h .new p u)) z);
   counted = λ s. w .counted (d ∙ s);
-  full = λ s. w .full (d ∙ s);
+  over = λ s. w .over (d ∙ s);
   spends = λ s. w .spends (d ∙ s);
   bounded = w .bounded;
   row = f;

@@ -21,7 +21,7 @@ use Rattle.walk.specs.Automaton.{Automaton, FreeStep, LetterStep, SpanSt
 use Rattle.marks.specs.Marks.{NoneAt, Finished, EndsBefore}
 use Rattle.walk.specs.Walks.{Pending, Given, SpanExit, LevelSet, WentOn, Stopped, Walked}
 use Rattle.marks.proofs.MarkLaws.{tally-level}
-use Rattle.walk.proofs.LevelLaws.{coming-of, known-entry, below-b, only-b, waiting-b, above-b, stays-b, back, closed-c, only-c, above-c}
+use Rattle.walk.proofs.LevelLaws.{coming-of, open-entry, below-b, only-b, waiting-b, above-b, stays-b, back, closed-c, only-c, above-c}
 use Rattle.walk.proofs.LevelLaws.{tally-c}
 
 -- a step does not lead past the word's end
@@ -58,7 +58,7 @@ pub none-open : (s : ℕ) → bitAt nothing s ≡ true → ⊥
 none-open s e = false≢true (sym (zeros-bit 2 s) ∙ e)
 
 pub full-start : (x : List ℕ) (j n : ℕ) → Full x nothing nothing j n
-full-start x j n = record { two = refl; known = λ s _ e. e; left = λ s _ e. absurd (none-open s e) }
+full-start x j n = record { two = refl; areOpen = λ s _ e. e; left = λ s _ e. absurd (none-open s e) }
 
 -- what a walk begins with: the marks a stand at number i
 pub record Beginning (t : Automaton) (i : ℕ) (a : List ℕ) : Type 0 where
@@ -99,7 +99,7 @@ module _ {t : Automaton} {i count limit : ℕ} {a : List ℕ} where
         begun = record { ready = r; number = n .1; marked = m; long = n .0 };
         old = λ q e. e;
         only = λ q e. start e;
-        coming = λ q _ k w′. let jw = r .word in absurd (none-open (q % 128 - 1) (known-entry x nothing q w′ (omega arith)));
+        coming = λ q _ k w′. let jw = r .word in absurd (none-open (q % 128 - 1) (open-entry x nothing q w′ (omega arith)));
         closed = λ p q k e _. let y = m p e in absurd (omega arith);
         above = λ q e. let y = m q e in omega arith;
         inside = λ s _ e. absurd (none-open s e);
@@ -194,7 +194,7 @@ module _ {t : Automaton} {i count limit : ℕ} {a : List ℕ} where
     pub before-spent : {b′ : List ℕ} {c′ : ℕ} → Stopped e j c limit b b′ c′ → Walked t count limit a b′ c′ true
     before-spent {b′} z =
         let cx = g .counted in
-        let cy = z .full in
+        let cy = z .over in
         let cz = tally-level b′ j in
         let ce = tally-below b′ (z .marked .old) (below-b t (g .begun .ready) j jn l (z .marked)) in
         let cu = tally-up (bitAt b′) (128 * (j + 1)) (128 * (length (t .word) + 1)) (omega arith) in
@@ -203,7 +203,7 @@ module _ {t : Automaton} {i count limit : ℕ} {a : List ℕ} where
           only = λ q k. reached-from base (only-b t (g .begun .ready) j jn l (z .marked) q k);
           all = λ f. absurd (true≢false f);
           counted = λ f. absurd (true≢false f);
-          full = λ _. omega arith;
+          over = λ _. omega arith;
           spends = λ _. z .spends;
           bounded = omega arith;
           long = z .marked .long ∙ g .lengths .0 ∙ sym (g .begun .long);
@@ -216,7 +216,7 @@ module _ {t : Automaton} {i count limit : ℕ} {a : List ℕ} where
     only = g .only;
     all = λ _ q r. every r;
     counted = λ _. let n = none in let d = g .counted in omega arith;
-    full = λ f. absurd (false≢true f);
+    over = λ f. absurd (false≢true f);
     spends = λ f. absurd (false≢true f);
     bounded = g .bounded;
     long = g .lengths .0 ∙ sym (g .begun .long);
@@ -259,4 +259,4 @@ module _ {t : Automaton} {i count limit : ℕ} {a : List ℕ} where
         finished g (none-ends (u .marked))
         (λ q m n w.
         let jw = g .begun .ready .word in
-        u .coming (q % 128 - 1) (omega arith) (known-entry x v q w (omega arith)))
+        u .coming (q % 128 - 1) (omega arith) (open-entry x v q w (omega arith)))

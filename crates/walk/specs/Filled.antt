@@ -50,7 +50,7 @@ pub record Filled (t : Automaton) (o : Target) (count limit : ℕ) (b : List ℕ
   pub all : (i q : ℕ) → i < stop → Reached (StartsAt o i) (Step t) q → bitAt (marks i) q ≡ true
   pub fits : count + visits marks (length (t .word)) stop ≤ limit
   pub counted : spent ≡ false → c ≡ count + visits marks (length (t .word)) (length (t .word) + 1)
-  pub full : spent ≡ true → (stop ≤ length (t .word)) × (limit < count + visits marks (length (t .word)) (stop + 1))
+  pub over : spent ≡ true → (stop ≤ length (t .word)) × (limit < count + visits marks (length (t .word)) (stop + 1))
   pub spends : spent ≡ true → c ≡ limit
   pub bounded : c ≤ limit
   pub rows : (i j : ℕ) → i < stop → i ≤ j → j ≤ length (t .word) → bitAt b (spanBit (blockOf t o) i j) ≡ ended (marks i) o j

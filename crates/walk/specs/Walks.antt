@@ -83,7 +83,7 @@ pub record WentOn (letters word set : List ℕ) (j count limit : ℕ) (a b : Lis
 pub record Stopped (set : List ℕ) (j count limit : ℕ) (a b : List ℕ) (c : ℕ) : Type 0 where
   pub marked : Adds a (PlaceOf set j) b
   pub spends : c ≡ limit
-  pub full : limit < count + tallyBelow 128 (λ (s : ℕ). bitAt b (128 * j + s))
+  pub over : limit < count + tallyBelow 128 (λ (s : ℕ). bitAt b (128 * j + s))
 
 -- the one or the other
 pub record Advanced (letters word set : List ℕ) (j count limit : ℕ) (a b : List ℕ) (c : ℕ) (spent : Bool) : Type 0 where
@@ -98,7 +98,7 @@ pub record Walked (t : Automaton) (count limit : ℕ) (a b : List ℕ) (c : ℕ)
   pub only : (q : ℕ) → bitAt b q ≡ true → Reached (λ (p : ℕ). bitAt a p ≡ true) (Step t) q
   pub all : spent ≡ false → (q : ℕ) → Reached (λ (p : ℕ). bitAt a p ≡ true) (Step t) q → bitAt b q ≡ true
   pub counted : spent ≡ false → c ≡ count + tallyBelow (128 * (length (t .word) + 1)) (bitAt b)
-  pub full : spent ≡ true → limit < count + tallyBelow (128 * (length (t .word) + 1)) (bitAt b)
+  pub over : spent ≡ true → limit < count + tallyBelow (128 * (length (t .word) + 1)) (bitAt b)
   pub spends : spent ≡ true → c ≡ limit
   pub bounded : c ≤ limit
   pub long : length b ≡ length a

@@ -1,6 +1,6 @@
 // One number of used events: all that is reached there, marked and counted, and the next event.
-use crate::Tally;
 use crate::cache::cached_closure;
+use marks::Tally;
 use marks::add_marked;
 use marks::count_marked;
 use marks::mark;

@@ -1,44 +1,20 @@
 // The block of an owner: its walks from every start, the rows of its block, and the count of the places that they visit.
 mod cache;
-mod ends;
 mod level;
 mod starts;
 mod walks;
 
 use crate::starts::fill_start;
+use marks::Tally;
 use marks::Target;
+use marks::ends::initial_states;
 use table::Block;
 ghost use mathlib.Core.Path.{_≡_};
 ghost use Prim.Native.Nat.{_<_, _≤_};
 ghost use lib.ListN.{length};
 ghost use Rattle.table.specs.Layout.{Lies};
-ghost use Rattle.levels.specs.Parts.{closedPart};
-ghost use Rattle.levels.specs.Sets.{Reflexive, Transitive};
 ghost use Rattle.walk.specs.Automaton.{automatonOf, Ready};
 ghost use Rattle.walk.specs.Filled.{blockOf, Apart, Filled};
-ghost use Rattle.walk.specs.Starts.{Initial};
-
-// What has been counted, or the limit where it is spent: where the next places would be more than it allows.
-pub struct Tally {
-    pub count: u64,
-    pub spent: bool,
-}
-
-// The states that free moves lead to from where the target's walks begin; they are the same for every start.
-fn initial_states(automaton: &[u64], target: Target) -> [u64; 2]
-    requires { ⌜ (length (now automaton) ≡ 834) × (0 < target .left) × (target .left < 128)
-        × (0 < target .right) × (target .right < 128) ⌝ }
-    requires { ⌜ Reflexive (closedPart (now automaton)) ⌝ }
-    requires { ⌜ Transitive (closedPart (now automaton)) ⌝ }
-    ensures { λ r. ⌜ Initial (closedPart (now (automaton .entry))) target r ⌝ }
-{
-    let left = target.left;
-    let right = target.right;
-    let mut entries = [0u64; 2];
-    bits::put_in_two(&mut entries, left - 1);
-    bits::put_in_two(&mut entries, right - 1);
-    levels::closure(automaton, &entries)
-}
 
 // Walks from each start, and fills the target's block.
 pub fn fill_block(

@@ -1,9 +1,9 @@
 // The row of one start.
-use crate::Tally;
-use crate::ends::ends_there;
-use crate::ends::fill_ended;
 use crate::walks::walk;
+use marks::Tally;
 use marks::Target;
+use marks::ends::ends_there;
+use marks::ends::fill_ended;
 use marks::rows::row_of;
 use table::Block;
 ghost use mathlib.Core.Path.{_≡_};
@@ -14,7 +14,8 @@ ghost use Rattle.table.specs.Layout.{Lies};
 ghost use Rattle.walk.specs.Automaton.{automatonOf, Ready};
 ghost use Rattle.walk.specs.Filled.{blockOf};
 ghost use Rattle.walk.specs.Walks.{Remembered};
-ghost use Rattle.walk.specs.Starts.{Initial, Started};
+ghost use Rattle.marks.specs.Ends.{Initial};
+ghost use Rattle.walk.specs.Starts.{Started};
 
 // Walks from start i with clear marks, and adds its row to the target's block.
 fn fill_walked(

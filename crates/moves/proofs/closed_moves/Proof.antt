@@ -1,5 +1,5 @@
 -- `closed_moves` closes the free moves of the records. Assumes nothing.
-use mathlib.Core.Path.{ap, _∙_}
+use mathlib.Core.Path.{_≡_, ap, _∙_}
 use native.Mathlib.Omega.{arith}
 use lib.ListN.{length}
 use Rattle.moves.proofs.RecordLaws.{moves-low}
@@ -22,4 +22,5 @@ closed-moves-spec =
     (λ c.
     let a = c .before .before .before .before .before .before in
     let p = a .before .before .before .pre in
-    record { single = _; moves = rw (p .0 .1) at (a .add-moves .ensures); closed = c .before .before .close .ensures }))
+    let l : length (a .before .before .before .args .moves .now) ≡ 256 = ap length (p .0 .1) in
+    record { single = _; moves = rw (p .0 .1) at (a .add-moves .ensures); closed = c .before .before .close .ensures; long = omega arith }))

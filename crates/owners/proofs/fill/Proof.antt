@@ -2,7 +2,7 @@
 use mathlib.Core.Path.{refl}
 use native.Mathlib.Omega.{arith}
 use Rattle.owners.proofs.SideLaws.{lefts-low}
-use Rattle.owners.proofs.Settings.{setting, whole-beside, filled-over, filled-within}
+use Rattle.owners.proofs.Settings.{setting, whole-beside, filled-cleared, filled-within}
 use Rattle.owners.proofs.fill.Statement.{statement}
 use Rattle.owners.proofs.fill.Tie as tie
 
@@ -32,7 +32,7 @@ fill-spec =
     (λ c.
     let l = c .before .before in
     let f = l .before .before .before .before .before in
-    filled-over (f .fill-all .ensures) (f .fill-all .kept .1 .1 .1 .1 .1 .0) (l .before .before .if1 .taken) (l .clear .ensures))
+    filled-cleared (f .fill-all .ensures) (f .fill-all .kept .1 .1 .1 .1 .1 .0) (l .before .before .if1 .taken) (l .clear .ensures))
     (λ c. omega arith)
     -- returns-2
     (λ c.

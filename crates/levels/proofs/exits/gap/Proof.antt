@@ -38,7 +38,7 @@ gap-spec =
     -- add-result
     (λ c. search needs)
     -- returns
-    (λ c. gap-law _ _ _ (c .before .before .before .before .loop .inv) (c .before .first .ensures) (c .if1 .taken))
+    (λ c. gap-law _ _ _ (c .before .before .before .before .loop .inv) (c .before .first .ensures) (c .before .before .before .loop-test .taken) (c .if1 .taken))
     -- add-w
     (λ c. search needs)
     -- loop-less

@@ -23,7 +23,7 @@ advance-spec =
     let n = c .before .count-marked .ensures .0 in
     record {
       on = λ f. absurd (true≢false f);
-      stop = λ _. record { marked = c .before .before .before .before .before .mark .ensures; spends = refl; full = omega arith };
+      stop = λ _. record { marked = c .before .before .before .before .before .mark .ensures; spends = refl; over = omega arith };
     })
     -- read-next-requires
     (λ c κs.

@@ -16,14 +16,14 @@ fill-start-spec =
     (λ c κs.
     let p = c .before .before .before .before .before .before .before .before .before .pre in
     let d = p .1 .1 .1 .0 in
-    (p .1 .0, ((p .1 .1 .1 .1 .1 .0, p .1 .1 .0 .2, p .1 .1 .0 .3, d .1, d .3), c .before .before .ends-there .ensures (c .before .if1 .taken) .0)))
+    (p .1 .0, ((p .1 .1 .1 .1 .1 .0, p .1 .1 .0 .2, p .1 .1 .0 .3, d .1, d .3), c .before .before .ends-there .ensures .0 (c .before .if1 .taken) .0)))
     -- same-length
     (λ c. search needs)
     -- returns
     (λ c.
     let p = c .before .before .before .before .before .before .before .before .before .before .before .before .pre in (
       ended-started (c .before .before .before .before .before .before .before .before .before .before .before .before .args .target) (p .0) (p .1 .1 .0 .2) (p .1 .1 .1 .0) (p .1 .1 .1 .1 .1 .1)
-          (c .before .before .before .before .before .ends-there .ensures (c .before .before .before .before .if1 .taken) .1) (c .before .before .fill-ended .ensures),
+          (c .before .before .before .before .before .ends-there .ensures .0 (c .before .before .before .before .if1 .taken) .1) (c .before .before .fill-ended .ensures),
       p .1 .1 .1 .1 .0,
     ))
     -- fill-walked-requires

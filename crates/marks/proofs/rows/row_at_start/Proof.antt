@@ -1,4 +1,4 @@
--- `first_row` has at most one bit. Assumes nothing.
+-- `row_at_start` has at most one bit. Assumes nothing.
 use mathlib.Core.Path.{_≡_, sym, ap, ap₂, _∙_}
 use mathlib.Core.Bool.{true, false≢true}
 use mathlib.Core.Logic.{⊎-elim}
@@ -11,11 +11,11 @@ use Rattle.bits.proofs.Laws.{zeros-bit}
 use Rattle.levels.proofs.SetLaws.{same-bits}
 use Rattle.marks.proofs.RowLaws.{both-law, one-span}
 use borrow.Author.Needs.{needs}
-use Rattle.marks.proofs.rows.first_row.Statement.{statement}
-use Rattle.marks.proofs.rows.first_row.Tie as tie
+use Rattle.marks.proofs.rows.row_at_start.Statement.{statement}
+use Rattle.marks.proofs.rows.row_at_start.Tie as tie
 
-pub first-row-spec : {M : Type 1} → statement M
-first-row-spec =
+pub row-at-start-spec : {M : Type 1} → statement M
+row-at-start-spec =
     tie.close (tie.spec
     -- slice-aggregate-add-marked
     (λ c. search needs)

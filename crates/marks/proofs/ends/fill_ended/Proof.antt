@@ -2,11 +2,11 @@
 use mathlib.Core.Path.{refl, _∙_}
 use mathlib.Core.Bool.{true≢false, false≢true}
 use native.Mathlib.Omega.{arith}
-use Rattle.walk.proofs.EndLaws.{one-row}
+use Rattle.marks.proofs.EndLaws.{one-row}
 use Rattle.marks.proofs.RowLaws.{row-spans}
 use borrow.Author.Needs.{needs}
-use Rattle.walk.proofs.ends.fill_ended.Statement.{statement}
-use Rattle.walk.proofs.ends.fill_ended.Tie as tie
+use Rattle.marks.proofs.ends.fill_ended.Statement.{statement}
+use Rattle.marks.proofs.ends.fill_ended.Tie as tie
 
 pub fill-ended-spec : {M : Type 1} → statement M
 fill-ended-spec =
@@ -28,15 +28,15 @@ fill-ended-spec =
       marks = _;
       marked = c .before .before .before .before .store .ensures;
       counted = λ f. absurd (true≢false f);
-      full = λ _. let i = c .if1 .taken in let p = c .before .before .before .before .before .before .before .before .pre .1 .0 .2 in omega arith;
+      over = λ _. let i = c .if1 .taken in let p = c .before .before .before .before .before .before .before .before .pre .1 .0 .2 in omega arith;
       spends = λ _. refl;
       bounded = omega arith;
       row = λ f. absurd (true≢false f);
       kept = λ _. refl;
     })
-    -- slice-aggregate-first-row
+    -- slice-aggregate-row-at-start
     (λ c. search needs)
-    -- first-row-requires
+    -- row-at-start-requires
     (λ c κs. search needs)
     -- slice-aggregate-add-row
     (λ c. search needs)
@@ -49,7 +49,7 @@ fill-ended-spec =
       (
         (q .1, search needs),
         row-spans _ (a .target) (a .i) (a .n) _ (search needs)
-            (λ k l. c .before .before .first-row .ensures k l ∙ one-row (c .before .before .before .before .before .before .before .before .store .ensures) (a .target) (a .n) k (p .1 .1) (q .3) (q .1)),
+            (λ k l. c .before .before .row-at-start .ensures k l ∙ one-row (c .before .before .before .before .before .before .before .before .store .ensures) (a .target) (a .n) k (p .1 .1) (q .3) (q .1)),
       ),
     ))
     -- add-t17
@@ -68,12 +68,12 @@ fill-ended-spec =
       marks = _;
       marked = c .before .before .before .before .before .before .before .before .before .before .before .store .ensures;
       counted = λ _. omega arith;
-      full = λ f. absurd (false≢true f);
+      over = λ f. absurd (false≢true f);
       spends = λ f. absurd (false≢true f);
       bounded = omega arith;
       row = λ _. (
         _,
-        λ k l. c .before .before .before .before .before .first-row .ensures k l ∙ one-row (c .before .before .before .before .before .before .before .before .before .before .before .store .ensures) (a .target) (a .n) k (p .1 .1) (q .3) (q .1),
+        λ k l. c .before .before .before .before .before .row-at-start .ensures k l ∙ one-row (c .before .before .before .before .before .before .before .before .before .before .before .store .ensures) (a .target) (a .n) k (p .1 .1) (q .3) (q .1),
         c .before .before .add-row .ensures,
       );
       kept = λ f. absurd (false≢true f);

@@ -1,9 +1,9 @@
 -- `initial_states` closes the entries. Assumes nothing.
 use Rattle.bits.proofs.Laws.{put-adds, adds-then}
-use Rattle.walk.proofs.EndLaws.{initial-law}
+use Rattle.marks.proofs.EndLaws.{initial-law}
 use borrow.Author.Needs.{needs}
-use Rattle.walk.proofs.initial_states.Statement.{statement}
-use Rattle.walk.proofs.initial_states.Tie as tie
+use Rattle.marks.proofs.ends.initial_states.Statement.{statement}
+use Rattle.marks.proofs.ends.initial_states.Tie as tie
 
 pub initial-states-spec : {M : Type 1} → statement M
 initial-states-spec =

@@ -1,24 +1,42 @@
 // A start whose walk goes no further than its initial states.
 use crate::Tally;
-use marks::Target;
-use marks::count_marked;
-use marks::rows::first_row;
-use marks::store;
+use crate::Target;
+use crate::count_marked;
+use crate::rows::row_at_start;
+use crate::store;
 use table::Block;
 ghost use mathlib.Core.Path.{_≡_};
 ghost use mathlib.Core.Bool.{true, false};
+ghost use mathlib.Core.Logic.{_↔_};
 ghost use Prim.Native.Nat.{ℕ, _+_, _*_, _%_, _<_, _≤_};
 ghost use lib.ListN.{length};
 ghost use Rattle.bits.specs.Bit.{bitAt};
-ghost use Rattle.levels.specs.Parts.{letterPart, specialPart};
+ghost use Rattle.levels.specs.Parts.{closedPart, letterPart, specialPart};
+ghost use Rattle.levels.specs.Sets.{Reflexive, Transitive};
 ghost use Rattle.table.specs.Layout.{blockAt, Lies};
-ghost use Rattle.walk.specs.Starts.{EndsThere, EndedRow};
+ghost use Rattle.marks.specs.Ends.{Initial, EndsThere, EndedRow};
+
+// The states that free moves lead to from where the target's walks begin; they are the same for every start.
+pub fn initial_states(automaton: &[u64], target: Target) -> [u64; 2]
+    requires { ⌜ (length (now automaton) ≡ 834) × (0 < target .left) × (target .left < 128)
+        × (0 < target .right) × (target .right < 128) ⌝ }
+    requires { ⌜ Reflexive (closedPart (now automaton)) ⌝ }
+    requires { ⌜ Transitive (closedPart (now automaton)) ⌝ }
+    ensures { λ r. ⌜ Initial (closedPart (now (automaton .entry))) target r ⌝ }
+{
+    let left = target.left;
+    let right = target.right;
+    let mut entries = [0u64; 2];
+    bits::put_in_two(&mut entries, left - 1);
+    bits::put_in_two(&mut entries, right - 1);
+    levels::closure(automaton, &entries)
+}
 
 // Tells that a walk that is at the states of a set at number i goes no further, and that its target is no complement.
 pub fn ends_there(automaton: &[u64], word: &[u8], set: &[u64], target: Target, i: usize) -> bool
     requires { ⌜ (length (now automaton) ≡ 834) × (length (now set) ≡ 2) × (i ≤ length (now word)) ⌝ }
     requires { ⌜ ((e s : ℕ) → s < 128 → bitAt (letterPart (now automaton)) (128 * e + s) ≡ true → s % 2 ≡ 0) ⌝ }
-    ensures { λ r. ⌜ (r ≡ true → (target .complement ≡ false) × EndsThere
+    ensures { λ r. ⌜ (r ≡ true) ↔ ((target .complement ≡ false) × EndsThere
         (letterPart (now (automaton .entry))) (specialPart (now (automaton .entry))) (now (word .entry)) i (now (set .entry))) ⌝ }
 {
     let complement = target.complement;
@@ -32,7 +50,7 @@ pub fn ends_there(automaton: &[u64], word: &[u8], set: &[u64], target: Target, i
         return true;
     }
     let next = levels::next_states(automaton, set, word[i]);
-    next[0] | next[1] == 0
+    levels::is_empty(&next)
 }
 
 // Fills the row of a start i of a target that is no complement, where a walk goes no further than its initial states.
@@ -59,7 +77,7 @@ pub fn fill_ended(
             spent: true,
         };
     }
-    let row = first_row(&marks, target, i);
+    let row = row_at_start(&marks, target, i);
     let first = target.first;
     table::add_row(table, Block { first: first, n: n }, i, &row);
     Tally {
