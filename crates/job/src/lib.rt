@@ -17,6 +17,9 @@ ghost use Rattle.judge.specs.JudgeAnswer.{judgeAnswer};
 ghost use Rattle.job.specs.JobAnswer.{jobValues, jobAnswer, written, refusal, listed, limitOf, afterRule, afterDay, afterJudge};
 ghost use Rattle.job.specs.JobMeaning.{JobMeaning};
 
+// The numbers of a table that is long enough for every job.
+const TABLE_NUMBERS: usize = 8192;
+
 // What a job comes to, in document 01's numbers; n is the length of the text.
 pub struct Answer {
     pub number: u64,
@@ -91,7 +94,7 @@ fn run_judge(rule: &[u8], m: usize, k: usize, word: &[u8], out: &mut [u8]) -> An
 {
     let n = word.len();
     let limit = (m * ((n + 1) * (n + 2))) as u64;
-    let mut table = [0u64; 8192];
+    let mut table = [0u64; TABLE_NUMBERS];
     let outcome = judge::judge(rule, word, limit, &mut table);
     let JudgeOutcome::Accepted(found, count) = outcome else {
         return refused(verdict::of_judge(outcome));
