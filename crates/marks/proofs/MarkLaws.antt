@@ -1,7 +1,7 @@
 -- Marks as numbers, two for each number of used events. Assumes nothing.
 use mathlib.Core.Path.{_≡_, refl, sym, ap, ap₂, _∙_}
 use mathlib.Core.Bool.{true}
-use mathlib.Core.Logic.{⊎-elim}
+use mathlib.Core.Logic.{inl, inr, ⊎-elim}
 use mathlib.Core.List.{List}
 use Prim.Native.Nat.{ℕ, _+_, _*_, _/_, _%_, _^_, _<_}
 use native.Mathlib.Omega.{arith}
@@ -14,7 +14,7 @@ use Rattle.bits.proofs.Laws.{adds-as}
 use Rattle.bits.proofs.Tally.{tally-same, tally-add}
 use Rattle.moves.proofs.RowLaws.{low-bit, high-bit, row-low, row-high, by-half, row-merged}
 use Rattle.levels.proofs.SetLaws.{or-zero, no-bit, zero-number, zero-set}
-use Rattle.marks.specs.Marks.{PlaceOf, StoredAt, MarkedAt, NoneAt, Finished}
+use Rattle.marks.specs.Marks.{PlaceOf, StoredAt, MarkedAt, MarkedIn, NoneAt, Finished}
 
 pub place-law : (e : List ℕ) {a b c : List ℕ} (j : ℕ) → Merged a (2 * j) (getD e 0 0) b → Merged b (2 * j + 1) (getD e 1 0) c
     → Adds a (PlaceOf e j) c
@@ -89,6 +89,22 @@ store-law a s j l n = record {
       (getD-set-other (set a (2 * j) (getD s 0 0)) (2 * j + 1) (q / 64) (getD s 1 0) 0 (λ (d : q / 64 ≡ 2 * j + 1). ne (omega arith))
       ∙ getD-set-other a (2 * j) (q / 64) (getD s 0 0) 0 (λ (d : q / 64 ≡ 2 * j). ne (omega arith)));
   long = simp length-set;
+}
+
+-- a set stored over some of its own states adds the others
+pub stored-adds : {a e b : List ℕ} {j : ℕ} → MarkedIn a e j → StoredAt a e j b → Adds a (PlaceOf e j) b
+stored-adds {a} {e} {b} {j} inside h = record {
+  old = λ q d.
+      ⊎-elim
+      (λ (n : q / 128 ≡ j).
+      let p : q ≡ 128 * j + q % 128 = omega arith in
+      h .here q n ∙ inside (q % 128) (omega arith) (ap (bitAt a) (sym p) ∙ d))
+      (λ (n : q / 128 ≡ j → ⊥). h .other q n ∙ d) (same-or-not (q / 128) j);
+  new = λ q p. h .here q (p .number) ∙ p .there;
+  only = λ q d.
+      ⊎-elim (λ (n : q / 128 ≡ j). inr record { number = n; there = sym (h .here q n) ∙ d })
+      (λ (n : q / 128 ≡ j → ⊥). inl (sym (h .other q n) ∙ d)) (same-or-not (q / 128) j);
+  long = h .long;
 }
 
 -- nothing is marked at number j, and no node is open: four numbers are 0

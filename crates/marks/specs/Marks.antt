@@ -22,6 +22,10 @@ pub record MarkedAt (marks : List ℕ) (j q : ℕ) : Type 0 where
   pub small : q < 128
   pub there : bitAt marks (128 * j + q) ≡ true
 
+-- what is marked at number j is in the set
+abbrev pub MarkedIn : (marks set : List ℕ) (j : ℕ) → Type 0
+MarkedIn marks set j = (s : ℕ) → s < 128 → bitAt marks (128 * j + s) ≡ true → bitAt set s ≡ true
+
 -- nothing is marked at number j
 abbrev pub NoneAt : (marks : List ℕ) (j : ℕ) → Type 0
 NoneAt marks j = (s : ℕ) → s < 128 → bitAt marks (128 * j + s) ≡ true → ⊥

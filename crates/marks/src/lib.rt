@@ -44,7 +44,8 @@ pub fn mark(marks: &mut [u64], set: &[u64], j: usize)
     bits::merge(marks, 2 * j + 1, set[1]);
 }
 
-// Stores a set at number j in place of what is marked there: no join, so that a compiler sees what is never read of the marks, and need not clear it.
+// Stores a set at number j in place of what is marked there: no join, so that a compiler sees what is never read of the marks, which it need
+// not clear, and counts the two numbers of a set at once.
 pub fn store(marks: &mut [u64], set: &[u64], j: usize)
     requires { ⌜ (length (now marks) ≡ 512) × (length (now set) ≡ 2) × (j < 256) ⌝ }
     ensures { λ _. ⌜ StoredAt (now (marks .entry)) (now (set .entry)) j (now (marks .exit)) ⌝ }

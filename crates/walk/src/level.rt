@@ -4,6 +4,7 @@ use marks::Tally;
 use marks::add_marked;
 use marks::count_marked;
 use marks::mark;
+use marks::store;
 ghost use mathlib.Core.Path.{_≡_};
 ghost use mathlib.Core.Bool.{true};
 ghost use Prim.Native.Nat.{ℕ, _+_, _*_, _%_, _≤_, _<_};
@@ -12,6 +13,7 @@ ghost use Rattle.bits.specs.Bit.{bitAt, Adds};
 ghost use Rattle.levels.specs.Parts.{closedPart, letterPart, specialPart};
 ghost use Rattle.levels.specs.Sets.{Among};
 ghost use Rattle.levels.specs.Exits.{toCome, Full};
+ghost use Rattle.marks.specs.Marks.{MarkedIn};
 ghost use Rattle.walk.specs.Automaton.{automatonOf, Ready};
 ghost use Rattle.walk.specs.Walks.{Remembered, LevelSet, NextExit, Advanced};
 
@@ -69,7 +71,7 @@ fn read_next(automaton: &[u64], word: &[u8], marks: &mut [u64], set: &[u64], j: 
     mark(marks, &next, j + 1);
 }
 
-// Marks the states of the set at number j, counts what is marked there, and reads the next event, unless the limit is passed.
+// Marks the states of the set, which has all that are marked there, at number j, counts what is marked there, and reads the next event, unless the limit is passed.
 pub fn advance(
     automaton: &[u64],
     word: &[u8],
@@ -81,12 +83,13 @@ pub fn advance(
 ) -> Tally
     requires { ⌜ (length (now automaton) ≡ 834) × (length (now marks) ≡ 512) × (length (now set) ≡ 2) ⌝ }
     requires { ⌜ (j ≤ length (now word)) × (length (now word) ≤ 255) × (count ≤ limit) ⌝ }
+    requires { ⌜ MarkedIn (now marks) (now set) j ⌝ }
     requires { ⌜ ((e s : ℕ) → s < 128 → bitAt (letterPart (now automaton)) (128 * e + s) ≡ true → s % 2 ≡ 0) ⌝ }
     ensures { λ r. ⌜ Advanced
         (letterPart (now (automaton .entry))) (now (word .entry)) (now (set .entry)) j count limit
         (now (marks .entry)) (now (marks .exit)) (r .count) (r .spent) ⌝ }
 {
-    mark(marks, set, j);
+    store(marks, set, j);
     let more = count_marked(marks, j);
     if limit - count < more {
         return Tally {

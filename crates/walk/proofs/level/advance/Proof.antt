@@ -2,6 +2,7 @@
 use mathlib.Core.Path.{refl, _∙_}
 use mathlib.Core.Bool.{false≢true, true≢false}
 use native.Mathlib.Omega.{arith}
+use Rattle.marks.proofs.MarkLaws.{stored-adds}
 use borrow.Author.Needs.{needs}
 use Rattle.walk.proofs.level.advance.Statement.{statement}
 use Rattle.walk.proofs.level.advance.Tie as tie
@@ -9,10 +10,10 @@ use Rattle.walk.proofs.level.advance.Tie as tie
 pub advance-spec : {M : Type 1} → statement M
 advance-spec =
     tie.close (tie.spec
-    -- mark-requires
+    -- store-requires
     (λ c κs. search needs)
     -- count-marked-requires
-    (λ c κs. let p = c .before .before .before .before .before .before .before .before .before .pre in let m = c .before .before .before .mark .ensures .long in omega arith)
+    (λ c κs. let p = c .before .before .before .before .before .before .before .before .before .pre in let m = c .before .before .before .store .ensures .long in omega arith)
     -- sub-if1
     (λ c. search needs)
     -- same-length
@@ -23,12 +24,12 @@ advance-spec =
     let n = c .before .count-marked .ensures .0 in
     record {
       on = λ f. absurd (true≢false f);
-      stop = λ _. record { marked = c .before .before .before .before .before .mark .ensures; spends = refl; over = omega arith };
+      stop = λ _. record { marked = stored-adds (c .before .before .before .before .before .before .before .before .before .before .before .pre .1 .1 .0) (c .before .before .before .before .before .store .ensures); spends = refl; over = omega arith };
     })
     -- read-next-requires
     (λ c κs.
     let p = c .before .before .before .before .before .before .before .before .before .before .before .before .pre in
-    ((p .0 .0, c .before .before .before .before .before .before .mark .ensures .long ∙ p .0 .1, p .0 .2), ((p .1 .0 .0, p .1 .0 .1), p .1 .1)))
+    ((p .0 .0, c .before .before .before .before .before .before .store .ensures .long ∙ p .0 .1, p .0 .2), ((p .1 .0 .0, p .1 .0 .1), p .1 .1 .1)))
     -- add-t14
     (λ c. let l = c .before .before .before .before .before .before .before .before .before .before .before .before .before .before .before .pre .1 .0 .2 in let f = c .before .before .before .before .before .before .before .before .before .before .before .before .before .before .before .fits in omega arith)
     -- same-length-2
@@ -41,7 +42,7 @@ advance-spec =
     record {
       on = λ _. record {
         middle = _;
-        marked = c .before .before .before .before .before .before .before .before .before .mark .ensures;
+        marked = stored-adds (c .before .before .before .before .before .before .before .before .before .before .before .before .before .before .before .pre .1 .1 .0) (c .before .before .before .before .before .before .before .before .before .store .ensures);
         read = c .before .before .read-next .ensures;
         counted = omega arith;
         bounded = omega arith;

@@ -66,7 +66,7 @@ walk-spec =
     (λ c κs.
     let g = c .before .before .before .before .before .before .before .before .before .before .before .before .before .before .before .before .before .before .before .loop .inv .0 in
     let r = g .begun .ready in
-    ((c .before .before .before .before .before .before .before .before .before .before .before .before .before .before .before .before .before .before .before .before .before .before .before .before .before .before .pre .1 .0 .0, g .lengths .0, search needs), ((c .before .before .before .before .before .before .before .before .before .before .before .before .before .before .before .before .before .before .loop-test .taken, r .word, g .bounded), r .letter)))
+    ((c .before .before .before .before .before .before .before .before .before .before .before .before .before .before .before .before .before .before .before .before .before .before .before .before .before .before .pre .1 .0 .0, g .lengths .0, search needs), ((c .before .before .before .before .before .before .before .before .before .before .before .before .before .before .before .before .before .before .loop-test .taken, r .word, g .bounded), (λ s k e. c .before .before .before .before .before .before .before .before .level .ensures .0 .marked s k e, r .letter))))
     -- same-length-4
     (λ c. let a = c .before .before .before .advance .kept .1 .1 .0 in let g = c .before .before .before .before .before .before .before .before .before .before .before .before .before .before .before .before .before .before .before .before .before .before .before .loop .inv .0 in let l = g .lengths .0 in let n = c .before .before .before .before .before .before .before .before .before .before .before .before .before .before .before .before .before .before .before .before .before .before .before .before .before .before .before .before .before .before .pre .1 .0 .1 in omega arith)
     -- same-length-5
