@@ -1,26 +1,30 @@
--- `print_seconds` is safe and ends. Assumes nothing.
+-- `print_table` is safe and ends. Assumes nothing.
 use borrow.Author.Needs.{needs}
 use Prim.Native.Nat.{_-_, _≤_}
 use lib.ListN.{length}
-use Rattle.case_lines.proofs.printing.print_seconds.Statement.{statement}
-use Rattle.case_lines.proofs.printing.print_seconds.Tie as tie
+use Rattle.known_days.proofs.judgements.print_table.Statement.{statement}
+use Rattle.known_days.proofs.judgements.print_table.Tie as tie
 
 abbrev Inv-loop : tie.InvT-loop
-Inv-loop seconds i₀ i-end i = i-end ≤ length seconds
+Inv-loop table i₀ t6 i = i ≤ length table
 
 abbrev μ-loop : tie.MeasureT-loop
-μ-loop seconds i₀ i-end i = i-end - i
+μ-loop table i₀ t6 i = length table - i
 
-pub print-seconds-spec : {M : Type 1} → statement M
-print-seconds-spec =
+pub print-table-spec : {M : Type 1} → statement M
+print-table-spec =
     tie.close (tie.spec Inv-loop μ-loop
     (λ c. search needs)
     (λ c κs. search needs)
     (λ c. search needs)
     (λ c κs. search needs)
     (λ c. search needs)
+    (λ c κs. search needs)
+    (λ c. search needs)
+    (λ c κs. search needs)
     (λ c. search needs)
     (λ c. search needs)
+    (λ c κs. search needs)
     (λ c κs. search needs)
     (λ c. search needs)
     (λ c. search needs)

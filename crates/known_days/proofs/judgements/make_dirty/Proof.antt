@@ -3,8 +3,8 @@ use borrow.Author.Needs.{needs}
 use Prim.Native.Nat.{_-_}
 use mathlib.Core.Path.{_≡_}
 use lib.ListN.{length}
-use Rattle.case_lines.proofs.buffers.make_dirty.Statement.{statement}
-use Rattle.case_lines.proofs.buffers.make_dirty.Tie as tie
+use Rattle.known_days.proofs.judgements.make_dirty.Statement.{statement}
+use Rattle.known_days.proofs.judgements.make_dirty.Tie as tie
 
 abbrev Inv-loop : tie.InvT-loop
 Inv-loop table₀ i₀ i-end table i = (length table ≡ length table₀) × (i-end ≡ length table₀)

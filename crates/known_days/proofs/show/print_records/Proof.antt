@@ -1,8 +1,8 @@
 -- `print_records` is safe and ends. Assumes nothing.
 use borrow.Author.Needs.{needs}
 use Prim.Native.Nat.{_-_}
-use Rattle.case_lines.proofs.printing.print_records.Statement.{statement}
-use Rattle.case_lines.proofs.printing.print_records.Tie as tie
+use Rattle.known_days.proofs.show.print_records.Statement.{statement}
+use Rattle.known_days.proofs.show.print_records.Tie as tie
 
 abbrev Inv-loop : tie.InvT-loop
 Inv-loop m nodes i₀ t6 i = Unit {0}

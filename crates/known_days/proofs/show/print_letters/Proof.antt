@@ -2,8 +2,8 @@
 use borrow.Author.Needs.{needs}
 use Prim.Native.Nat.{_-_, _≤_}
 use lib.ListN.{length}
-use Rattle.case_lines.proofs.printing.print_letters.Statement.{statement}
-use Rattle.case_lines.proofs.printing.print_letters.Tie as tie
+use Rattle.known_days.proofs.show.print_letters.Statement.{statement}
+use Rattle.known_days.proofs.show.print_letters.Tie as tie
 
 abbrev Inv-loop : tie.InvT-loop
 Inv-loop letters i₀ i-end i = i-end ≤ length letters

@@ -3,8 +3,8 @@ use borrow.Author.Needs.{needs}
 use Prim.Native.Nat.{_-_}
 use mathlib.Core.Path.{_≡_}
 use lib.ListN.{length}
-use Rattle.case_lines.proofs.buffers.seconds_before.Statement.{statement}
-use Rattle.case_lines.proofs.buffers.seconds_before.Tie as tie
+use Rattle.known_days.proofs.show.seconds_before.Statement.{statement}
+use Rattle.known_days.proofs.show.seconds_before.Tie as tie
 
 abbrev Inv-loop : tie.InvT-loop
 Inv-loop seconds₀ i₀ seconds i = length seconds ≡ 1024

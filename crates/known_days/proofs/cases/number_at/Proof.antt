@@ -4,8 +4,8 @@ use borrow.Author.Tests.{ltb-false}
 use native.Mathlib.Omega.{arith}
 use Prim.Native.Nat.{_-_, _≤_}
 use lib.ListN.{length}
-use Rattle.case_lines.proofs.numbers.number_at.Statement.{statement}
-use Rattle.case_lines.proofs.numbers.number_at.Tie as tie
+use Rattle.known_days.proofs.cases.number_at.Statement.{statement}
+use Rattle.known_days.proofs.cases.number_at.Tie as tie
 
 abbrev Inv-loop : tie.InvT-loop
 Inv-loop s from value₀ i₀ i-end value i = i-end ≤ length s

@@ -3,8 +3,8 @@ use borrow.Author.Needs.{needs}
 use Prim.Native.Nat.{_+_, _-_, _≤_}
 use mathlib.Core.Path.{_≡_}
 use lib.ListN.{length}
-use Rattle.case_lines.proofs.printing.run_length.Statement.{statement}
-use Rattle.case_lines.proofs.printing.run_length.Tie as tie
+use Rattle.known_days.proofs.judgements.run_length.Statement.{statement}
+use Rattle.known_days.proofs.judgements.run_length.Tie as tie
 
 abbrev Inv-loop : tie.InvT-loop
 Inv-loop table from x i₀ i-end i = (i-end ≡ length table) × (from + 1 ≤ i)
