@@ -79,7 +79,7 @@ module _ (s : List ℕ) (w : Word) (limit : ℕ) (old : List ℕ) (r : Answer) (
         let l : m ≡ size (a .tree) = ap (λ (x : RuleAnswer). x .m) (a .same) in
         record {
           pad = unused (64 - size (a .tree));
-          whole = ap (λ (x : RuleAnswer). x .nodes) (a .same);
+          front = ap (λ (x : RuleAnswer). x .nodes) (a .same);
           long = sym l;
           few = omega (arith, a .passed .nodes);
         }

@@ -15,7 +15,7 @@ use Rattle.bits.specs.Bit.{hasBit, bitAt, Merged, Adds}
 use Rattle.bits.proofs.Digits.{below-or-not, same-or-not, and-both, and-left, and-right}
 use Rattle.bits.proofs.Laws.{merged-adds, adds-then, adds-as}
 use Rattle.levels.specs.Sets.{Entries, LetterExit}
-use Rattle.levels.specs.Turns.{MovedUp, ExitOf}
+use Rattle.levels.specs.Private.{MovedUp, ExitOf}
 use Rattle.moves.proofs.RowLaws.{word-bit}
 
 -- ---- up by a bit

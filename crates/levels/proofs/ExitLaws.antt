@@ -14,7 +14,7 @@ use Rattle.bits.proofs.Digits.{below-or-not, same-or-not, zero-has, has-or, mas
 use Rattle.bits.proofs.Laws.{put-adds, merged-adds, adds-then, adds-as, or-cases}
 use Rattle.levels.specs.Sets.{Exactly, Among}
 use Rattle.levels.specs.Exits.{DueExit, FullAt, LeftAt, hasSpan}
-use Rattle.levels.specs.Turns.{Missing, SameStates, PutIf, ExitOf, Gap, PutFull, keptIf, RowJoined, NodeEntered}
+use Rattle.levels.specs.Private.{Missing, SameStates, PutIf, ExitOf, Gap, PutFull, keptIf, RowJoined, NodeEntered}
 use Rattle.moves.proofs.RowLaws.{word-bit}
 
 -- ---- the loop over the keep nodes

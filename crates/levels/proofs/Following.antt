@@ -13,7 +13,7 @@ use Rattle.bits.proofs.Laws.{adds-as, zeros-bit}
 use Rattle.bits.proofs.Tally.{left-less}
 use Rattle.moves.proofs.RowLaws.{word-bit, by-half, row-merged}
 use Rattle.levels.specs.Sets.{Reflexive, Transitive, AllLed}
-use Rattle.levels.specs.Turns.{LedTo, LedFrom, FollowedWord}
+use Rattle.levels.specs.Private.{LedTo, LedFrom, FollowedWord}
 
 -- ---- what one state leads to
 

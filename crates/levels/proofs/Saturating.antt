@@ -13,7 +13,7 @@ use Rattle.moves.specs.Reached.{Reached, start, after}
 use Rattle.moves.specs.Moves.{FreeMove}
 use Rattle.levels.specs.Sets.{InSet, Among, Disjoint, Entries, Reflexive, Transitive}
 use Rattle.levels.specs.Exits.{toCome, LeftAt, Room, hasSpan, SpanHere, StepHere, Entered, Begun, Saturated}
-use Rattle.levels.specs.Turns.{Missing, SameStates, Common, LedIf, NodeEntered}
+use Rattle.levels.specs.Private.{Missing, SameStates, Common, LedIf, NodeEntered}
 use Rattle.levels.proofs.SetLaws.{in-set, same-bits}
 
 -- what is given of the automaton's lists, and of the set and the full nodes at the beginning

@@ -15,7 +15,7 @@ use Rattle.bits.proofs.Packed.{packed-is}
 use Rattle.bits.proofs.Tally.{left-less}
 use Rattle.moves.proofs.RowLaws.{word-bit, low-bit, high-bit, by-half}
 use Rattle.levels.specs.Sets.{Disjoint}
-use Rattle.levels.specs.Turns.{Missing, SameStates, Common, PutIf}
+use Rattle.levels.specs.Private.{Missing, SameStates, Common, PutIf}
 
 pub same-bits : (x y : Bool) → (x ≡ true → y ≡ true) → (y ≡ true → x ≡ true) → x ≡ y
 same-bits true true f g = refl

@@ -74,8 +74,8 @@ pub record Begun (c a f : List ℕ) : Type 0 where
   pub closed : (s t : ℕ) → FreeMove c s t → bitAt a s ≡ true → bitAt a t ≡ true
   pub exits : (s : ℕ) → s < 128 → bitAt f s ≡ true → bitAt a (s + 1) ≡ true
 
--- e has the states that are reached at number j from those of a; with the nodes entered, x is y, the open nodes v are u and the full ones f
--- are g
+-- e has the states that are reached at number j from those of a by the closed moves c and the blocks of special nodes; with the nodes entered,
+-- the exits to come x are y, the open nodes v are u and the full ones f are g
 pub record Saturated (c specials firsts table : List ℕ) (n j : ℕ) (a x v f e y u g : List ℕ) : Type 0 where
   pub all : Among a e
   pub only : (s : ℕ) → s < 128 → bitAt e s ≡ true → Reached (InSet a) (StepHere c specials firsts table n j) s

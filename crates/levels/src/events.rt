@@ -5,7 +5,7 @@ ghost use Prim.Native.Nat.{ℕ, _+_, _*_, _%_, _<_};
 ghost use lib.ListN.{length};
 ghost use Rattle.bits.specs.Bit.{hasBit, bitAt};
 ghost use Rattle.levels.specs.Sets.{Exactly, LetterExit};
-ghost use Rattle.levels.specs.Turns.{MovedUp};
+ghost use Rattle.levels.specs.Private.{MovedUp};
 
 // A byte as a number.
 pub fn wide(x: u8) -> usize
@@ -28,8 +28,8 @@ pub fn next(letters: &[u64], set: &[u64], event: usize) -> [u64; 2]
     requires { ⌜ ((s : ℕ) → s < 128 → bitAt (now letters) (128 * event + s) ≡ true → s % 2 ≡ 0) ⌝ }
     ensures { λ r. ⌜ Exactly (LetterExit (now (letters .entry)) (now (set .entry)) event) r ⌝ }
 {
-    let mut exits = [0u64; 2];
-    bits::merge(&mut exits, 0, move_up(set[0] & letters[2 * event]));
-    bits::merge(&mut exits, 1, move_up(set[1] & letters[2 * event + 1]));
-    exits
+    let mut left = [0u64; 2];
+    bits::merge(&mut left, 0, move_up(set[0] & letters[2 * event]));
+    bits::merge(&mut left, 1, move_up(set[1] & letters[2 * event + 1]));
+    left
 }

@@ -1,16 +1,15 @@
 // Exits to come of the special nodes that were entered: bit 256 * i + k where node i is left at number k.
 use crate::events::move_up;
 use crate::sets::copy;
-use crate::sets::first_missing;
+use crate::sets::find_missing;
 use crate::sets::put_if;
 use table::Block;
 ghost use mathlib.Core.Path.{_≡_};
-ghost use mathlib.Core.Bool.{Bool};
 ghost use Prim.Native.Nat.{_+_, _*_, _/_, _%_, _<_, _≤_};
 ghost use lib.ListN.{length};
 ghost use Rattle.levels.specs.Sets.{Exactly, Entries};
 ghost use Rattle.levels.specs.Exits.{DueExit, FullAt, Room, hasSpan};
-ghost use Rattle.levels.specs.Turns.{ExitOf, Gap, PutFull, keptIf, RowJoined, NodeEntered};
+ghost use Rattle.levels.specs.Private.{ExitOf, Gap, PutFull, keptIf, RowJoined, NodeEntered};
 
 // The exits of the entries of a set.
 fn exits_of(entries: &[u64]) -> [u64; 2]
@@ -18,10 +17,10 @@ fn exits_of(entries: &[u64]) -> [u64; 2]
     requires { ⌜ Entries (now entries) ⌝ }
     ensures { λ r. ⌜ Exactly (ExitOf (now (entries .entry))) r ⌝ }
 {
-    let mut exits = [0u64; 2];
-    bits::merge(&mut exits, 0, move_up(entries[0]));
-    bits::merge(&mut exits, 1, move_up(entries[1]));
-    exits
+    let mut left = [0u64; 2];
+    bits::merge(&mut left, 0, move_up(entries[0]));
+    bits::merge(&mut left, 1, move_up(entries[1]));
+    left
 }
 
 // The exits of the open nodes that are left at number j; of the full ones nothing need be looked up.
@@ -34,7 +33,7 @@ pub fn due(exits: &[u64], opened: &[u64], full: &[u64], j: usize) -> [u64; 2]
     let mut states = exits_of(full);
     let mut done = copy(full);
     loop {
-        let s = first_missing(opened, &done);
+        let s = find_missing(opened, &done);
         if s == 128 {
             return states;
         }

@@ -4,7 +4,7 @@ ghost use Prim.Native.Nat.{_*_, _<_};
 ghost use lib.ListN.{length};
 ghost use Rattle.bits.specs.Bit.{Adds};
 ghost use Rattle.levels.specs.Sets.{Reflexive, Transitive, AllLed};
-ghost use Rattle.levels.specs.Turns.{LedTo, LedIf, FollowedWord};
+ghost use Rattle.levels.specs.Private.{LedTo, LedIf, FollowedWord};
 
 // Adds to the set the states that s leads to.
 fn lead(closed: &[u64], s: usize, set: &mut [u64])
@@ -31,14 +31,14 @@ fn follow_word(closed: &[u64], todo: &[u64], set: &mut [u64], w: usize)
     requires { ⌜ Reflexive (now closed) ⌝ }
     ensures { λ _. ⌜ FollowedWord (now (closed .entry)) (now (todo .entry)) w (now (set .entry)) (now (set .exit)) ⌝ }
 {
-    let m = todo[w];
-    let mut d = set[w];
+    let wanted = todo[w];
+    let mut done = set[w];
     loop {
-        let b = bits::first(m, d);
+        let b = bits::first(wanted, done);
         if b == 64 {
             return;
         }
-        d = d | bits::one(b);
+        done = done | bits::one(b);
         lead(closed, 64 * w + b, set);
     }
 }

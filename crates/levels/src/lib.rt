@@ -12,7 +12,7 @@ ghost use mathlib.Core.Logic.{_↔_};
 ghost use Prim.Native.Nat.{ℕ, _+_, _*_, _%_, _<_, _≤_};
 ghost use lib.ListN.{length};
 ghost use Rattle.bits.specs.Bit.{bitAt};
-ghost use Rattle.levels.specs.Parts.{closedPart, letterPart, specialPart, firstPart};
+ghost use Rattle.levels.specs.AutomatonParts.{closedPart, letterPart, specialPart, firstPart};
 ghost use Rattle.levels.specs.Sets.{NoState, Disjoint, Entries, Reflexive, Transitive, AllLed, Exactly, LetterExit};
 ghost use Rattle.levels.specs.Exits.{FullAt, DueExit, Room, Begun, Saturated};
 

@@ -2,7 +2,7 @@
 use crate::exits::enter;
 use crate::free::lead_if;
 use crate::sets::copy;
-use crate::sets::first_missing;
+use crate::sets::find_missing;
 use crate::sets::intersect;
 ghost use mathlib.Core.Path.{_≡_};
 ghost use Prim.Native.Nat.{_≤_};
@@ -40,7 +40,7 @@ pub fn saturate(
     let mut reached = copy(set);
     loop {
         let inner = intersect(&reached, specials);
-        let s = first_missing(&inner, &entered);
+        let s = find_missing(&inner, &entered);
         if s == 128 {
             return reached;
         }

@@ -6,10 +6,10 @@ ghost use Prim.Native.Nat.{_*_, _<_};
 ghost use lib.ListN.{length};
 ghost use Rattle.bits.specs.Bit.{Adds};
 ghost use Rattle.levels.specs.Sets.{Disjoint};
-ghost use Rattle.levels.specs.Turns.{Missing, SameStates, Common, PutIf};
+ghost use Rattle.levels.specs.Private.{Missing, SameStates, Common, PutIf};
 
 // A state of a that b lacks; 128 where there is none.
-pub fn first_missing(a: &[u64], b: &[u64]) -> usize
+pub fn find_missing(a: &[u64], b: &[u64]) -> usize
     requires { ⌜ (length (now a) ≡ 2) × (length (now b) ≡ 2) ⌝ }
     ensures { λ r. ⌜ Missing (now (a .entry)) (now (b .entry)) r ⌝ }
 {

@@ -1,4 +1,4 @@
--- Laws of marks, of rows, and of a start that needs no walk.
+-- Laws of marks, of rows, and of a start whose walk goes no further.
 pub mod MarkLaws
 pub mod RowLaws
 pub mod EndLaws

@@ -17,7 +17,7 @@ use Rattle.bits.specs.Bit.{hasBit, bitAt, indicator}
 use Rattle.bits.proofs.Digits.{below-or-not, same-or-not, zero-has, has-or, has-xor, power-has, power-lacks, mask-has}
 use Rattle.marks.specs.declared.Target.{Target}
 use Rattle.marks.specs.Marks.{EndsBefore}
-use Rattle.marks.specs.Rows.{decide, ended, met, metFrom, rowOf, Shows}
+use Rattle.marks.specs.Rows.{decide, judged, met, metFrom, rowOf, Shows}
 
 -- ---- one state, and both exits
 
@@ -238,7 +238,7 @@ row-spans marks o i n r long h k e =
     absurd (false≢true (sym (zero-has (k % 64)) ∙ ap (hasBit (k % 64)) (sym z) ∙ e)))
     (below-or-not k 256)
   where
-    here : (p q : Bool) → leb i k ≡ p → leb k n ≡ q → (p && (q && ended marks o k)) ≡ true → (i ≤ k) × (k ≤ n)
+    here : (p q : Bool) → leb i k ≡ p → leb k n ≡ q → (p && (q && judged marks o k)) ≡ true → (i ≤ k) × (k ≤ n)
     here true true p q d = (leb-true i k p, leb-true k n q)
     here true false p q d = absurd (false≢true d)
     here false q p i d = absurd (false≢true d)

@@ -1,4 +1,5 @@
--- Marked places, the row of a start, and the start that needs no walk.
+-- Marked places, the row of a start, and the start whose walk goes no further than its initial states.
 pub mod Marks
 pub mod Rows
 pub mod Ends
+pub mod Steps

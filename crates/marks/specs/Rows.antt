@@ -14,8 +14,8 @@ decide true false c = c
 decide false right c = c
 
 -- the walk that left the marks says that the span to number k obeys
-abbrev pub ended : (marks : List ℕ) (o : Target) → ℕ → Bool
-ended marks o k = decide (bitAt marks (128 * k + o .left)) (bitAt marks (128 * k + o .right)) (o .complement)
+abbrev pub judged : (marks : List ℕ) (o : Target) → ℕ → Bool
+judged marks o k = decide (bitAt marks (128 * k + o .left)) (bitAt marks (128 * k + o .right)) (o .complement)
 
 -- both exits are marked at number k
 abbrev pub met : (marks : List ℕ) (o : Target) (k : ℕ) → Bool
@@ -27,7 +27,7 @@ metFrom marks o i k = leb i k && met marks o k
 
 -- the row of a start i: the numbers from i to n to which the span obeys
 unfoldable pub rowOf : (marks : List ℕ) (o : Target) (i n : ℕ) → ℕ → Bool
-rowOf marks o i n k = leb i k && (leb k n && ended marks o k)
+rowOf marks o i n k = leb i k && (leb k n && judged marks o k)
 
 -- r is number w of the row that is as f says
 abbrev pub Shows : (f : ℕ → Bool) (w r : ℕ) → Type 0

@@ -1,19 +1,21 @@
 // A start whose walk goes no further than its initial states.
 use crate::Tally;
 use crate::Target;
+use crate::add_marked;
 use crate::count_marked;
-use crate::rows::row_at_start;
 use crate::store;
 use table::Block;
 ghost use mathlib.Core.Path.{_≡_};
-ghost use mathlib.Core.Bool.{true, false};
+ghost use mathlib.Core.Bool.{true, false, _&&_};
 ghost use mathlib.Core.Logic.{_↔_};
 ghost use Prim.Native.Nat.{ℕ, _+_, _*_, _%_, _<_, _≤_};
 ghost use lib.ListN.{length};
-ghost use Rattle.bits.specs.Bit.{bitAt};
-ghost use Rattle.levels.specs.Parts.{closedPart, letterPart, specialPart};
+ghost use lib.Dec.{eqb};
+ghost use Rattle.bits.specs.Bit.{bitAt, indicator};
+ghost use Rattle.levels.specs.AutomatonParts.{closedPart, letterPart, specialPart};
 ghost use Rattle.levels.specs.Sets.{Reflexive, Transitive};
 ghost use Rattle.table.specs.Layout.{blockAt, Lies};
+ghost use Rattle.marks.specs.Rows.{met};
 ghost use Rattle.marks.specs.Ends.{Initial, EndsThere, EndedRow};
 
 // The states that free moves lead to from where the target's walks begin; they are the same for every start.
@@ -51,6 +53,31 @@ pub fn ends_there(automaton: &[u64], word: &[u8], set: &[u64], target: Target, i
     }
     let next = levels::next_states(automaton, set, word[i]);
     levels::is_empty(&next)
+}
+
+// 1 where the state x is in the set, else 0.
+fn in_set(set: &[u64], x: usize) -> u64
+    requires { ⌜ (length (now set) ≡ 2) × (x < 128) ⌝ }
+    ensures { λ r. ⌜ r ≡ indicator (bitAt (now (set .entry)) x) ⌝ }
+{
+    if x < 64 {
+        return (set[0] >> x) % 2;
+    }
+    (set[1] >> (x - 64)) % 2
+}
+
+// The row of start i of a target that is no complement, after a walk that left no marks but at number i.
+fn row_at_start(marks: &[u64], target: Target, i: usize) -> [u64; 4]
+    requires { ⌜ (length (now marks) ≡ 512) × (i < 256) × (target .left < 128) × (target .right < 128) ⌝ }
+    ensures { λ r. ⌜ ((k : ℕ) → k < 256 → bitAt r k ≡ (eqb k i && met (now (marks .entry)) target i)) ⌝ }
+{
+    let mut states = [0u64; 2];
+    add_marked(marks, i, &mut states);
+    let left = target.left;
+    let right = target.right;
+    let mut row = [0u64; 4];
+    row[i / 64] = (in_set(&states, left) & in_set(&states, right)) << (i % 64);
+    row
 }
 
 // Fills the row of a start i of a target that is no complement, where a walk goes no further than its initial states.

@@ -1,11 +1,9 @@
 // The row of a start: bit k for the span to number k.
 use crate::Target;
-use crate::add_marked;
 ghost use mathlib.Core.Path.{_≡_};
-ghost use mathlib.Core.Bool.{_&&_};
 ghost use Prim.Native.Nat.{ℕ, _+_, _*_, _<_, _≤_, max, min};
 ghost use lib.ListN.{length};
-ghost use lib.Dec.{eqb, ltb};
+ghost use lib.Dec.{ltb};
 ghost use Rattle.bits.specs.Bit.{bitAt, indicator};
 ghost use Rattle.marks.specs.Marks.{EndsBefore};
 ghost use Rattle.marks.specs.Rows.{met, metFrom, rowOf, Shows};
@@ -105,30 +103,5 @@ pub fn row_of(marks: &[u64], target: Target, i: usize, end: usize, n: usize) -> 
     row[1] = row_word(marks, target, 1, i, end, n);
     row[2] = row_word(marks, target, 2, i, end, n);
     row[3] = row_word(marks, target, 3, i, end, n);
-    row
-}
-
-// 1 where the state x is in the set, else 0.
-fn in_set(set: &[u64], x: usize) -> u64
-    requires { ⌜ (length (now set) ≡ 2) × (x < 128) ⌝ }
-    ensures { λ r. ⌜ r ≡ indicator (bitAt (now (set .entry)) x) ⌝ }
-{
-    if x < 64 {
-        return (set[0] >> x) % 2;
-    }
-    (set[1] >> (x - 64)) % 2
-}
-
-// The row of start i of a target that is no complement, after a walk that left no marks but at number i.
-pub fn row_at_start(marks: &[u64], target: Target, i: usize) -> [u64; 4]
-    requires { ⌜ (length (now marks) ≡ 512) × (i < 256) × (target .left < 128) × (target .right < 128) ⌝ }
-    ensures { λ r. ⌜ ((k : ℕ) → k < 256 → bitAt r k ≡ (eqb k i && met (now (marks .entry)) target i)) ⌝ }
-{
-    let mut states = [0u64; 2];
-    add_marked(marks, i, &mut states);
-    let left = target.left;
-    let right = target.right;
-    let mut row = [0u64; 4];
-    row[i / 64] = (in_set(&states, left) & in_set(&states, right)) << (i % 64);
     row
 }

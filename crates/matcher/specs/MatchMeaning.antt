@@ -1,6 +1,7 @@
 -- What the answer says of a rule that was read, a word, a limit and the table at entry, by the language and the collection of reached
 -- places: document 01's row "Judge". Assumes nothing.
--- That `matchAnswer` is the one answer which says so is `answer-means` in proofs/Answered and `answer-is` in proofs/Determined.
+-- That `matchAnswer` is the one answer which says so, of a rule whose special nodes stand at rising byte offsets as those of a text do, is
+-- `answer-means` in proofs/Answered and `answer-is` in proofs/Determined.
 use Prim.Native.Nat.{ℕ, _*_, _^_, _≤_, _<_}
 use mathlib.Core.Path.{_≡_}
 use mathlib.Core.Logic.{_↔_}

@@ -8,11 +8,11 @@ ghost use Rattle.bits.specs.Bit.{Adds};
 ghost use Rattle.moves.specs.Moves.{KindLetter, KindSpecial};
 
 // Adds the entry of node i to those of its letter, if it has one.
-pub fn add_letter(entries: &mut [u64], k: Kind, i: usize)
+pub fn add_letter(entries: &mut [u64], kind: Kind, i: usize)
     requires { ⌜ (length (now entries) ≡ 512) × (i < 64) ⌝ }
-    ensures { λ _. ⌜ Adds (now (entries .entry)) (KindLetter k i) (now (entries .exit)) ⌝ }
+    ensures { λ _. ⌜ Adds (now (entries .entry)) (KindLetter kind i) (now (entries .exit)) ⌝ }
 {
-    match k {
+    match kind {
         Kind::Letter(letter) => {
             bits::put(entries, 128 * (letter as usize) + 2 * i);
         }
@@ -27,11 +27,11 @@ pub fn add_letter(entries: &mut [u64], k: Kind, i: usize)
 }
 
 // Adds the entry of node i, if it is special.
-pub fn add_special(entries: &mut [u64], k: Kind, i: usize)
+pub fn add_special(entries: &mut [u64], kind: Kind, i: usize)
     requires { ⌜ (length (now entries) ≡ 2) × (i < 64) ⌝ }
-    ensures { λ _. ⌜ Adds (now (entries .entry)) (KindSpecial k i) (now (entries .exit)) ⌝ }
+    ensures { λ _. ⌜ Adds (now (entries .entry)) (KindSpecial kind i) (now (entries .exit)) ⌝ }
 {
-    if is_special(k) {
+    if is_special(kind) {
         bits::put(entries, 2 * i);
     }
 }

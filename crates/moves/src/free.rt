@@ -29,13 +29,13 @@ fn sided_moves(moves: &mut [u64], e: usize, x: usize, y: usize, f: usize, z: usi
 
 // Adds the free moves that node i brings; its first side, where it has two, is node l, and its last side is the node before it.
 // An intersection and a complement bring none: a walk passes them by the span table alone.
-fn node_moves(moves: &mut [u64], k: Kind, i: usize, l: usize)
-    requires { ⌜ (length (now moves) ≡ 256) × (i < 64) × (l ≤ i) × NotFirst k i ⌝ }
-    ensures { λ _. ⌜ Adds (now (moves .entry)) (KindMove k i l) (now (moves .exit)) ⌝ }
+fn node_moves(moves: &mut [u64], kind: Kind, i: usize, l: usize)
+    requires { ⌜ (length (now moves) ≡ 256) × (i < 64) × (l ≤ i) × NotFirst kind i ⌝ }
+    ensures { λ _. ⌜ Adds (now (moves .entry)) (KindMove kind i l) (now (moves .exit)) ⌝ }
 {
     let e = 2 * i;
     let d = 2 * l;
-    match k {
+    match kind {
         Kind::Epsilon => {
             link(moves, e, e + 1);
         }
@@ -67,9 +67,9 @@ pub fn add_moves(nodes: [Node; 64], m: usize, lefts: [usize; 64], moves: &mut [u
     let mut i = 0;
     while i < m {
         let node = nodes[i];
-        let k = node.kind;
+        let kind = node.kind;
         let l = lefts[i];
-        node_moves(moves, k, i, l);
+        node_moves(moves, kind, i, l);
         i += 1;
     }
 }

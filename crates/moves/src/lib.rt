@@ -16,10 +16,10 @@ ghost use Rattle.bits.specs.Bit.{Adds};
 ghost use Rattle.moves.specs.Moves.{specialKind, SidesBefore, ClosedMoves, LetterEntry, SpecialEntry};
 
 // Whether a walk passes a node of this kind by the span table alone.
-pub fn is_special(k: Kind) -> bool
-    ensures { λ r. ⌜ r ≡ specialKind k ⌝ }
+pub fn is_special(kind: Kind) -> bool
+    ensures { λ r. ⌜ r ≡ specialKind kind ⌝ }
 {
-    match k {
+    match kind {
         Kind::Empty => false,
         Kind::Epsilon => false,
         Kind::Letter(_) => false,
@@ -50,8 +50,8 @@ pub fn letter_entries(nodes: [Node; 64], m: usize, entries: &mut [u64])
     let mut i = 0;
     while i < m {
         let node = nodes[i];
-        let k = node.kind;
-        add_letter(entries, k, i);
+        let kind = node.kind;
+        add_letter(entries, kind, i);
         i += 1;
     }
 }
@@ -64,8 +64,8 @@ pub fn special_entries(nodes: [Node; 64], m: usize, entries: &mut [u64])
     let mut i = 0;
     while i < m {
         let node = nodes[i];
-        let k = node.kind;
-        add_special(entries, k, i);
+        let kind = node.kind;
+        add_special(entries, kind, i);
         i += 1;
     }
 }

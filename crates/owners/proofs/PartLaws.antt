@@ -186,7 +186,7 @@ headed t y h =
 module _ {t : Tree} {nodes : List Node} {m : ℕ} (r : Recorded t nodes m) where
   node-is : (y : ℕ) → y < m → getD nodes y noNode ≡ nodeOf (partAt t y)
   node-is y h =
-      ap (λ (l : List Node). getD l y noNode) (r .whole)
+      ap (λ (l : List Node). getD l y noNode) (r .front)
       ∙ List·getD-append (records t) (r .pad) noNode y (omega (arith, records-length t, r .long))
       ∙ ap (λ (l : List Node). getD l y noNode) (sym (parts-records t)) ∙ List·getD-map nodeOf (allParts t) y (empty 0)
 

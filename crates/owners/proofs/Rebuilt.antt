@@ -37,6 +37,6 @@ rebuilt-records (star o a) st l =
 pub tree-from : (t : Tree) (nodes : List Node) (m : ℕ) → Recorded t nodes m → treeFrom nodes m ≡ t
 unfolding treeFrom
 tree-from t nodes m r =
-    ap (λ l. treeFrom l m) (r .whole)
+    ap (λ l. treeFrom l m) (r .front)
     ∙ ap (λ l. top (rebuilt [] l)) (take-at (records t) (r .pad) m (records-length t ∙ r .long) ∙ sym (append-nil (records t)))
     ∙ ap top (rebuilt-records t [] [])

@@ -8,7 +8,7 @@ use lib.Seq.{take-all, take-at, drop-at}
 use borrow.Rule.Slice.PartMut.{midOf, putMid}
 use Rattle.bits.specs.Bit.{Adds}
 use Rattle.regex.specs.declared.Node.{Node}
-use Rattle.levels.specs.Parts.{closedPart, letterPart, specialPart, firstPart}
+use Rattle.levels.specs.AutomatonParts.{closedPart, letterPart, specialPart, firstPart}
 use Rattle.moves.specs.Moves.{ClosedMoves, LetterEntry, SpecialEntry}
 use Rattle.owners.specs.Blocks.{FirstNumbers}
 use Rattle.owners.specs.Building.{Built}

@@ -15,7 +15,7 @@ use Rattle.regex.specs.Tree.{Tree}
 use Rattle.moves.specs.Reached.{start}
 use Rattle.moves.specs.Moves.{kindAt, specialKind, NotFirst}
 use Rattle.moves.proofs.Paths.{leads-on}
-use Rattle.levels.specs.Parts.{firstPart}
+use Rattle.levels.specs.AutomatonParts.{firstPart}
 use Rattle.walk.specs.Automaton.{automatonOf, Ready}
 use Rattle.owners.specs.Filling.{Fillable, FilledTable}
 use Rattle.owners.specs.Sides.{Lefts}

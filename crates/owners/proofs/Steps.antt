@@ -17,7 +17,7 @@ use Rattle.regex.specs.Tree.{Tree, empty, epsilon, letter, union, intersection,
 use Rattle.moves.specs.Reached.{start, after}
 use Rattle.moves.specs.Moves.{kindAt, specialKind, KindMove, RecordMove, FreeMove}
 use Rattle.table.proofs.LayoutLaws.{held-span}
-use Rattle.levels.specs.Parts.{letterPart, specialPart, firstPart}
+use Rattle.levels.specs.AutomatonParts.{letterPart, specialPart, firstPart}
 use Rattle.walk.specs.Automaton.{automatonOf, Step, LetterStep, SpanStep}
 use Rattle.work.specs.Span.{Obeys}
 use Rattle.work.specs.Walk.{entry, exit, Part, NodeMove, epsilon-through, letter-use, union-to-left, union-to-right, union-left-out}

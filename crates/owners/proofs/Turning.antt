@@ -15,7 +15,7 @@ use Rattle.regex.specs.declared.Node.{Node}
 use Rattle.regex.specs.Tree.{Tree, empty, epsilon, letter, union, intersection, concatenation, complement, star, below, size, isSpecial}
 use Rattle.moves.specs.Moves.{kindAt, specialKind}
 use Rattle.table.proofs.LayoutLaws.{blocks-part, held-kept}
-use Rattle.levels.specs.Parts.{firstPart}
+use Rattle.levels.specs.AutomatonParts.{firstPart}
 use Rattle.marks.specs.declared.Target.{Target}
 use Rattle.walk.specs.Automaton.{Automaton, automatonOf}
 use Rattle.walk.specs.Filled.{Apart, Filled}

@@ -13,10 +13,10 @@ use Rattle.regex.specs.declared.Node.{Node}
 use Rattle.regex.specs.Tree.{Tree, intersection, complement, below, size, isSpecial}
 use Rattle.moves.specs.Reached.{Reached}
 use Rattle.table.proofs.LayoutLaws.{holds-block}
-use Rattle.levels.specs.Parts.{specialPart, firstPart}
+use Rattle.levels.specs.AutomatonParts.{specialPart, firstPart}
 use Rattle.marks.specs.declared.Target.{Target}
 use Rattle.walk.specs.Automaton.{Automaton, automatonOf, Step}
-use Rattle.marks.specs.Rows.{decide, ended}
+use Rattle.marks.specs.Rows.{decide, judged}
 use Rattle.walk.specs.Filled.{StartsAt, Apart, Filled}
 use Rattle.work.specs.Walk.{exit, Part, itself, intersection-left, intersection-right, complement-inner, Owner, whole, special}
 use Rattle.work.specs.SizeOf.{SizeOf}
@@ -58,7 +58,7 @@ pub record Walker (g : Automaton) (o : Target) (v : Tree) (c : ℕ → ℕ) : Ty
   pub bound : (i s j : ℕ) → i ≤ length (g .word) → reach i s j → (s < 128) × (j ≤ length (g .word))
   pub same : (i q : ℕ) → i ≤ length (g .word) → Reached (StartsAt o i) (Step g) q ↔ reach i (q % 128) (q / 128)
   pub spans : (marks : List ℕ) (i j : ℕ) → i ≤ j → j ≤ length (g .word)
-      → ((q : ℕ) → (bitAt marks q ≡ true) ↔ reach i (q % 128) (q / 128)) → ended marks o j ≡ obeys (g .word) v i j
+      → ((q : ℕ) → (bitAt marks q ≡ true) ↔ reach i (q % 128) (q / 128)) → judged marks o j ≡ obeys (g .word) v i j
 
 module _ {g : Automaton} {o : Target} {v : Tree} {c : ℕ → ℕ} (k : Walker g o v c) {count limit : ℕ} {b : List ℕ} {d : ℕ} {spent : Bool}
     (f : Filled g o count limit b d spent) where
@@ -74,7 +74,7 @@ module _ {g : Automaton} {o : Target} {v : Tree} {c : ℕ → ℕ} (k : Walker g
 
   module _ (s : spent ≡ false) where
     all : (i : ℕ) → i ≤ length (g .word) → (q : ℕ) → (bitAt (f .marks i) q ≡ true) ↔ k .reach i (q % 128) (q / 128)
-    all i l q = (λ e. k .same i q l .0 (f .only i q e), λ z. f .all i q (omega (arith, f .whole s)) (k .same i q l .1 z))
+    all i l q = (λ e. k .same i q l .0 (f .only i q e), λ z. f .all i q (omega (arith, f .finished s)) (k .same i q l .1 z))
 
     marks-are : (i : ℕ) → i ≤ length (g .word) → tallyBelow (128 * (length (g .word) + 1)) (bitAt (f .marks i)) ≡ c i
     marks-are i l =
@@ -90,7 +90,7 @@ module _ {g : Automaton} {o : Target} {v : Tree} {c : ℕ → ℕ} (k : Walker g
     filled-block short =
         holds-block short
         (λ i j l h.
-        f .rows i j (omega (arith, f .whole s)) l h ∙ k .spans (f .marks i) i j l h (all i (omega arith)))
+        f .rows i j (omega (arith, f .finished s)) l h ∙ k .spans (f .marks i) i j l h (all i (omega arith)))
         (λ q l e. f .others q l e .0)
 
 -- ---- the three owners

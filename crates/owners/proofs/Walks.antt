@@ -11,7 +11,7 @@ use Rattle.regex.specs.Tree.{Tree, intersection, complement, below, size}
 use Rattle.moves.specs.Reached.{Reached, start, after}
 use Rattle.moves.specs.Moves.{Leads}
 use Rattle.moves.proofs.Paths.{reached-from}
-use Rattle.levels.specs.Parts.{firstPart}
+use Rattle.levels.specs.AutomatonParts.{firstPart}
 use Rattle.walk.specs.Automaton.{automatonOf, Step}
 use Rattle.work.specs.Walk.{entry, exit, Part, itself, union-left, union-right, intersection-left, intersection-right, concatenation-left}
 use Rattle.work.specs.Walk.{concatenation-right, complement-inner, star-inner, Owner, whole, special, Begins, begin-rule, begin-left}

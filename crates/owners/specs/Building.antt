@@ -5,7 +5,7 @@ use mathlib.Core.List.{List}
 use lib.ListN.{length, replicate}
 use Rattle.bits.specs.Bit.{Adds}
 use Rattle.regex.specs.declared.Node.{Node}
-use Rattle.levels.specs.Parts.{closedPart, letterPart, specialPart}
+use Rattle.levels.specs.AutomatonParts.{closedPart, letterPart, specialPart}
 use Rattle.moves.specs.Moves.{ClosedMoves, LetterEntry, SpecialEntry}
 
 -- the run has the closed free moves of the first m records and the entries of their letters and of their special nodes

@@ -24,7 +24,7 @@ treeFrom nodes m = top (rebuilt [] (take m nodes))
 -- the first m of nodes are the records of t
 pub record Recorded (t : Tree) (nodes : List Node) (m : ℕ) : Type 0 where
   pub pad : List Node
-  pub whole : nodes ≡ records t ++ pad
+  pub front : nodes ≡ records t ++ pad
   pub long : size t ≡ m
   pub few : m ≤ 64
 

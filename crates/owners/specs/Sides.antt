@@ -19,7 +19,7 @@ sidesOf Concatenation = 2
 sidesOf Complement = 1
 sidesOf Star = 1
 
--- the list has the first record of each part before node i; a node with sides is not the first
+-- what `extent_of` reads of the list lies in it; a node with sides is not the first
 pub record SidesKnown (begins : List ℕ) (sides i : ℕ) : Type 0 where
   pub within : i < 64
   pub one : sides ≡ 1 → 0 < i

@@ -11,7 +11,7 @@ use Rattle.regex.specs.declared.Kind.the-variants.{Empty, Epsilon, Letter, Unio
 use Rattle.regex.specs.declared.Node.{Node}
 use Rattle.regex.specs.Tree.{Tree, empty, epsilon, letter, union, intersection, concatenation, complement, star, size}
 use Rattle.table.specs.Layout.{blockAt, InBlock}
-use Rattle.levels.specs.Parts.{firstPart}
+use Rattle.levels.specs.AutomatonParts.{firstPart}
 use Rattle.work.specs.Count.{walks, specialWalks, fullCount}
 use Rattle.work.specs.Table.{HoldsBlock}
 use Rattle.owners.specs.Filling.{Recorded}

@@ -8,7 +8,7 @@ use regex::Node;
 ghost use mathlib.Core.Path.{_≡_};
 ghost use Prim.Native.Nat.{_^_, _≤_};
 ghost use lib.ListN.{replicate};
-ghost use Rattle.levels.specs.Parts.{firstPart};
+ghost use Rattle.levels.specs.AutomatonParts.{firstPart};
 ghost use Rattle.moves.specs.Moves.{SidesBefore};
 ghost use Rattle.owners.specs.Blocks.{FirstNumbers};
 ghost use Rattle.owners.specs.Building.{Built};

@@ -12,10 +12,10 @@ ghost use Rattle.moves.specs.Moves.{specialKind};
 ghost use Rattle.owners.specs.Blocks.{specialsBefore, FirstNumbers};
 
 // 1 for a special node with an offset below `bound`, 0 for any other.
-fn one_before(k: Kind, offset: usize, bound: usize) -> usize
-    ensures { λ r. ⌜ (r ≡ indicator (specialKind k && ltb offset bound)) × (r ≤ 1) ⌝ }
+fn one_before(kind: Kind, offset: usize, bound: usize) -> usize
+    ensures { λ r. ⌜ (r ≡ indicator (specialKind kind && ltb offset bound)) × (r ≤ 1) ⌝ }
 {
-    if is_special(k) {
+    if is_special(kind) {
         if offset < bound {
             return 1;
         }
@@ -33,8 +33,8 @@ fn specials_before(nodes: [Node; 64], m: usize, bound: usize) -> usize
     let mut i = 0;
     while i < m {
         let node = nodes[i];
-        let k = node.kind;
-        count += one_before(k, node.offset, bound);
+        let kind = node.kind;
+        count += one_before(kind, node.offset, bound);
         i += 1;
     }
     count
@@ -50,8 +50,8 @@ pub fn first_numbers(nodes: [Node; 64], m: usize, n: usize, special: usize, firs
     let mut i = 0;
     while i < m {
         let node = nodes[i];
-        let k = node.kind;
-        if is_special(k) {
+        let kind = node.kind;
+        if is_special(kind) {
             let first = special + specials_before(nodes, m, node.offset) * stride;
             firsts[i] = first as u64;
         }

@@ -33,8 +33,8 @@ pub fn fill(
     build(nodes, m, lefts, word.len(), special, &mut automaton);
     let t = fill_all(nodes, m, &lefts, &automaton, word, table, whole, limit);
     if t.spent {
-        let n = table.len();
-        bits::clear(table, n);
+        let numbers = table.len();
+        bits::clear(table, numbers);
         return t;
     }
     t

@@ -7,10 +7,10 @@ ghost use Rattle.owners.specs.Filling.{treeFrom, Recorded};
 ghost use Rattle.owners.specs.Sides.{sidesOf, SidesKnown, SidesFound, Lefts};
 
 // How many sides a node of this kind has.
-fn sides_of(k: Kind) -> usize
-    ensures { λ r. ⌜ r ≡ sidesOf k ⌝ }
+fn sides_of(kind: Kind) -> usize
+    ensures { λ r. ⌜ r ≡ sidesOf kind ⌝ }
 {
-    match k {
+    match kind {
         Kind::Empty => 0,
         Kind::Epsilon => 0,
         Kind::Letter(_) => 0,
@@ -61,8 +61,8 @@ pub fn left_sides(nodes: [Node; 64], m: usize) -> [usize; 64]
     let mut i = 0;
     while i < m {
         let node = nodes[i];
-        let k = node.kind;
-        let e = extent_of(&begins, sides_of(k), i);
+        let kind = node.kind;
+        let e = extent_of(&begins, sides_of(kind), i);
         begins[i] = e.begin;
         lefts[i] = e.left;
         i += 1;

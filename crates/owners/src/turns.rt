@@ -9,17 +9,17 @@ ghost use mathlib.Core.Path.{_≡_};
 ghost use mathlib.Core.Bool.{true};
 ghost use Prim.Native.Nat.{_<_, _≤_};
 ghost use lib.ListN.{length};
-ghost use Rattle.levels.specs.Parts.{firstPart};
+ghost use Rattle.levels.specs.AutomatonParts.{firstPart};
 ghost use Rattle.moves.specs.Moves.{kindAt, specialKind};
 ghost use Rattle.owners.specs.Filling.{treeFrom};
 ghost use Rattle.owners.specs.Blocks.{BlocksBelow, WholeApart};
 ghost use Rattle.owners.specs.Turns.{isComplement, Setting, Turned, SpecialsTurned, AllTurned};
 
 // Whether a special node's block has the spans at which its walks do not end.
-fn is_complement(k: Kind) -> bool
-    ensures { λ r. ⌜ r ≡ isComplement k ⌝ }
+fn is_complement(kind: Kind) -> bool
+    ensures { λ r. ⌜ r ≡ isComplement kind ⌝ }
 {
-    match k {
+    match kind {
         Kind::Empty => false,
         Kind::Epsilon => false,
         Kind::Letter(_) => false,
@@ -50,8 +50,8 @@ fn own(
         (now (table .entry)) (now (table .exit)) (t .count) (t .spent) ⌝ }
 {
     let node = nodes[i];
-    let k = node.kind;
-    let complement = is_complement(k);
+    let kind = node.kind;
+    let complement = is_complement(kind);
     // The exits of its sides; the right one stands just before it, and the only side of a complement is both.
     let left = 2 * lefts[i] + 1;
     let right = 2 * i - 1;
@@ -82,8 +82,8 @@ fn fill_specials(
     let mut i = 0;
     while i < m {
         let node = nodes[i];
-        let k = node.kind;
-        if is_special(k) {
+        let kind = node.kind;
+        if is_special(kind) {
             let t = own(nodes, m, lefts, automaton, word, table, i, c, limit);
             if t.spent {
                 return t;

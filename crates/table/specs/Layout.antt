@@ -1,4 +1,4 @@
--- Where the bits of spans stand in a table that holds several blocks. Above `work`, nothing but this file and what this crate does
+-- Where the bits of spans stand in a table that holds several blocks. Above `work`, no definition but these and no code but this crate's
 -- knows the layout: others speak of `spanBit`, and of `rowBit` where a row was read, by the laws of proofs/LayoutLaws. Assumes nothing.
 use Prim.Native.Nat.{ℕ, _+_, _*_, _≤_, _<_}
 use mathlib.Core.Path.{_≡_}

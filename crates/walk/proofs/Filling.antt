@@ -20,7 +20,7 @@ use Rattle.table.proofs.LayoutLaws.{span-in, span-one}
 use Rattle.marks.specs.declared.Target.{Target}
 use Rattle.walk.specs.Automaton.{Automaton, FreeStep, LetterStep, SpanStep, Step, Ready}
 use Rattle.walk.specs.Filled.{blockOf, StartsAt, Apart, sumBelow, visits, Filled}
-use Rattle.marks.specs.Rows.{ended}
+use Rattle.marks.specs.Rows.{judged}
 use Rattle.walk.specs.Starts.{Started}
 use Rattle.marks.specs.Rows.{rowOf}
 
@@ -120,7 +120,7 @@ visits-more f i m n =
 -- ---- the loop
 
 -- within its ends, a row has the spans that obey
-row-is : (marks : List ℕ) (o : Target) (i n k : ℕ) → i ≤ k → k ≤ n → rowOf marks o i n k ≡ ended marks o k
+row-is : (marks : List ℕ) (o : Target) (i n k : ℕ) → i ≤ k → k ≤ n → rowOf marks o i n k ≡ judged marks o k
 unfolding rowOf
 row-is marks o i n k h l = rw (le-leb i k h, le-leb k n l)
 
@@ -134,7 +134,7 @@ pub record Filling (t : Automaton) (o : Target) (count limit i : ℕ) (b : List 
   pub all : (k q : ℕ) → k < i → Reached (StartsAt o k) (Step t) q → bitAt (marks k) q ≡ true
   pub counted : c ≡ count + visits marks (length (t .word)) i
   pub bounded : c ≤ limit
-  pub rows : (k j : ℕ) → k < i → k ≤ j → j ≤ length (t .word) → bitAt b (spanBit (blockOf t o) k j) ≡ ended (marks k) o j
+  pub rows : (k j : ℕ) → k < i → k ≤ j → j ≤ length (t .word) → bitAt b (spanBit (blockOf t o) k j) ≡ judged (marks k) o j
   pub others : (q : ℕ) → InBlock (blockOf t o) q → bitAt b q ≡ true → (z : SpanAt (blockOf t o) q) × (z .start < i)
   pub outside : (q : ℕ) → (InBlock (blockOf t o) q → ⊥) → bitAt b q ≡ bitAt (t .table) q
   pub long : length b ≡ length (t .table)
@@ -190,10 +190,10 @@ module _ {t : Automaton} {o : Target} {count limit : ℕ} where
         (same-or-not j i)
 
     -- the rows before i are as they were
-    rows′ : (m j : ℕ) → m < i → m ≤ j → j ≤ length (t .word) → bitAt b (spanBit (blockOf t o) m j) ≡ ended (marks′ m) o j
+    rows′ : (m j : ℕ) → m < i → m ≤ j → j ≤ length (t .word) → bitAt b (spanBit (blockOf t o) m j) ≡ judged (marks′ m) o j
     unfolding marks′
     rows′ m j l u v =
-        g .rows m j l u v ∙ ap (λ (n : List ℕ). ended n o j) (sym (with-other (g .marks) i (s .marks) m (λ (z : m ≡ i). omega arith)))
+        g .rows m j l u v ∙ ap (λ (n : List ℕ). judged n o j) (sym (with-other (g .marks) i (s .marks) m (λ (z : m ≡ i). omega arith)))
 
     module _ (f : spent ≡ false) where
       row : List ℕ
@@ -214,7 +214,7 @@ module _ {t : Automaton} {o : Target} {count limit : ℕ} where
           (added .old (spanBit (blockOf t o) m j))
 
       -- the row of start i
-      row-here : (j : ℕ) → i ≤ j → j ≤ length (t .word) → bitAt b′ (spanBit (blockOf t o) i j) ≡ ended (s .marks) o j
+      row-here : (j : ℕ) → i ≤ j → j ≤ length (t .word) → bitAt b′ (spanBit (blockOf t o) i j) ≡ judged (s .marks) o j
       unfolding row
       row-here j u v =
           let w = g .ready .word in
@@ -285,7 +285,7 @@ module _ {t : Automaton} {o : Target} {count limit : ℕ} where
           stop = i;
           marks = marks′;
           few = omega arith;
-          whole = λ z. absurd (true≢false (sym f ∙ z));
+          finished = λ z. absurd (true≢false (sym f ∙ z));
           only = only′;
           all = λ j q l u. rw (with-other (g .marks) i (s .marks) j (λ (v : j ≡ i). omega arith)) (g .all j q l u);
           fits = omega arith;
@@ -309,7 +309,7 @@ module _ {t : Automaton} {o : Target} {count limit : ℕ} where
         stop = i;
         marks = g .marks;
         few = g .few;
-        whole = λ _. e;
+        finished = λ _. e;
         only = g .only;
         all = g .all;
         fits = omega arith;

@@ -19,7 +19,8 @@ use Rattle.levels.specs.Exits.{toCome, DueExit, LeftAt, Full, FullAt, hasSpan, 
 use Rattle.levels.proofs.SetLaws.{in-set, same-bits}
 use Rattle.walk.specs.Automaton.{Automaton, FreeStep, LetterStep, SpanStep, Step, Ready}
 use Rattle.marks.specs.Marks.{PlaceOf, MarkedAt}
-use Rattle.walk.specs.Walks.{Pending, Given, SpanExit, Joins, LevelSet, NextExit, WentOn, Stopped, Advanced}
+use Rattle.marks.specs.Steps.{NextExit}
+use Rattle.walk.specs.Walks.{Pending, MarkedOrDue, SpanExit, Joins, LevelSet}
 
 -- ---- tests that are joined
 
@@ -119,7 +120,7 @@ module _ (t : Automaton) (ready : Ready t) (j : ℕ) (jn : j ≤ length (t .word
   module _ {e y u g : List ℕ} (sat : Saturated (t .closed) (t .specials) (t .firsts) (t .table) (length (t .word)) j w x v f e y u g) where
     -- ---- the states
 
-    first : (s : ℕ) → s < 128 → bitAt todo s ≡ true → Reached (Given a (toCome x v) j) (Step t) (128 * j + s)
+    first : (s : ℕ) → s < 128 → bitAt todo s ≡ true → Reached (MarkedOrDue a (toCome x v) j) (Step t) (128 * j + s)
     first s l h =
         ⊎-elim
         (λ (z : DueExit x v j s).
@@ -153,8 +154,8 @@ module _ (t : Automaton) (ready : Ready t) (j : ℕ) (jn : j ≤ length (t .word
         (λ (k : SpanHere (t .specials) (t .firsts) (t .table) (length (t .word)) j p s).
         let ev = ready .special p (k .small) (k .special) in let l = k .small in let z = k .exit in omega arith) h
 
-    free-on : {p s : ℕ} → FreeMove (t .closed) p s → Reached (Given a (toCome x v) j) (Step t) (128 * j + p)
-        → Reached (Given a (toCome x v) j) (Step t) (128 * j + s)
+    free-on : {p s : ℕ} → FreeMove (t .closed) p s → Reached (MarkedOrDue a (toCome x v) j) (Step t) (128 * j + p)
+        → Reached (MarkedOrDue a (toCome x v) j) (Step t) (128 * j + s)
     free-on {p} {s} k r =
         let lp = k .from in
         let l = k .to in
@@ -162,7 +163,7 @@ module _ (t : Automaton) (ready : Ready t) (j : ℕ) (jn : j ≤ length (t .word
         let z : (128 * j + s) % 128 ≡ s = omega arith in
         after {q = 128 * j + s} r (inl record { number = omega arith; move = rw (m, z) (k .move) })
 
-    lift : {s : ℕ} → Reached (InSet w) Here s → Reached (Given a (toCome x v) j) (Step t) (128 * j + s)
+    lift : {s : ℕ} → Reached (InSet w) Here s → Reached (MarkedOrDue a (toCome x v) j) (Step t) (128 * j + s)
     lift {s} (start h) =
         let z = led .only s (h .small) (h .there) in
         free-on record { from = z .small; to = h .small; move = z .leads } (first (z .by) (z .small) (z .there))
@@ -307,13 +308,13 @@ module _ (t : Automaton) (ready : Ready t) (j : ℕ) (jn : j ≤ length (t .word
   below-b q n d =
       ⊎-elim (λ (z : bitAt a q ≡ true). z) (λ (z : PlaceOf e j q). let i = z .number in absurd (omega arith)) (marked .only q d)
 
-  pub only-b : (q : ℕ) → bitAt b q ≡ true → Reached (Given a X j) (Step t) q
+  pub only-b : (q : ℕ) → bitAt b q ≡ true → Reached (MarkedOrDue a X j) (Step t) q
   only-b q d =
       ⊎-elim (λ (z : bitAt a q ≡ true). start (inl z))
       (λ (z : PlaceOf e j q).
       let n = z .number in
       let k : 128 * j + q % 128 ≡ q = omega arith in
-      subst (Reached (Given a X j) (Step t)) k (set .only (q % 128) (omega arith) (z .there)))
+      subst (Reached (MarkedOrDue a X j) (Step t)) k (set .only (q % 128) (omega arith) (z .there)))
       (marked .only q d)
 
   pub waiting-b : (p : ℕ) → p / 128 ≡ j → Pending X p → bitAt b p ≡ true
@@ -395,7 +396,7 @@ module _ (t : Automaton) (ready : Ready t) (j : ℕ) (jn : j ≤ length (t .word
         g)
         (same-or-not (q / 128) j)
 
-    pub only-c : (q : ℕ) → bitAt c q ≡ true → Reached (Given a X j) (Step t) q
+    pub only-c : (q : ℕ) → bitAt c q ≡ true → Reached (MarkedOrDue a X j) (Step t) q
     only-c q d =
         ⊎-elim (λ (z : bitAt b q ≡ true). only-b q z)
         (λ (z : NextExit (t .letters) (t .word) e j q).

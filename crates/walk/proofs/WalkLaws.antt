@@ -19,7 +19,8 @@ use Rattle.levels.specs.Exits.{toCome, Full}
 use Rattle.levels.proofs.SetLaws.{same-bits}
 use Rattle.walk.specs.Automaton.{Automaton, FreeStep, LetterStep, SpanStep, Step, Ready}
 use Rattle.marks.specs.Marks.{NoneAt, Finished, EndsBefore}
-use Rattle.walk.specs.Walks.{Pending, Given, SpanExit, LevelSet, WentOn, Stopped, Walked}
+use Rattle.marks.specs.Steps.{WentOn, Stopped}
+use Rattle.walk.specs.Walks.{Pending, MarkedOrDue, SpanExit, LevelSet, Walked}
 use Rattle.marks.proofs.MarkLaws.{tally-level}
 use Rattle.walk.proofs.LevelLaws.{coming-of, open-entry, below-b, only-b, waiting-b, above-b, stays-b, back, closed-c, only-c, above-c}
 use Rattle.walk.proofs.LevelLaws.{tally-c}
@@ -111,7 +112,7 @@ module _ {t : Automaton} {i count limit : ℕ} {a : List ℕ} where
 
   module _ {b x v v′ e : List ℕ} (x′ : List ℕ) {c j : ℕ} (g : Before t i count limit j a b x v c) (jn : j ≤ length (t .word))
       (l : LevelSet t j b (toCome x v) e (toCome x′ v′) v′) where
-    base : (p : ℕ) → Given b (toCome x v) j p → Reached (λ (p : ℕ). bitAt a p ≡ true) (Step t) p
+    base : (p : ℕ) → MarkedOrDue b (toCome x v) j p → Reached (λ (p : ℕ). bitAt a p ≡ true) (Step t) p
     base p d = ⊎-elim (λ (e : bitAt b p ≡ true). g .only p e) (λ e. let n = e .0 in g .coming p (omega arith) (omega arith) (e .1)) d
 
     -- what stays below number j

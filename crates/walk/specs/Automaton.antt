@@ -7,7 +7,7 @@ use mathlib.Core.Bool.{true}
 use lib.ListN.{length, getD}
 use Rattle.bits.specs.Bit.{bitAt}
 use Rattle.table.specs.Layout.{blockAt, spanBit}
-use Rattle.levels.specs.Parts.{closedPart, letterPart, specialPart, firstPart}
+use Rattle.levels.specs.AutomatonParts.{closedPart, letterPart, specialPart, firstPart}
 use Rattle.levels.specs.Sets.{Entries, Reflexive, Transitive}
 use Rattle.levels.specs.Exits.{Room}
 

@@ -8,7 +8,7 @@ use lib.ListN.{length, getD}
 use Rattle.bits.specs.Bit.{bitAt, tallyBelow}
 use Rattle.moves.specs.Reached.{Reached}
 use Rattle.marks.specs.declared.Target.{Target}
-use Rattle.marks.specs.Rows.{ended}
+use Rattle.marks.specs.Rows.{judged}
 use Rattle.table.specs.declared.Block.{Block}
 use Rattle.table.specs.Layout.{blockAt, spanBit, InBlock, SpanAt}
 use Rattle.work.specs.Table.{blockLength}
@@ -45,7 +45,7 @@ pub record Filled (t : Automaton) (o : Target) (count limit : ℕ) (b : List ℕ
   pub stop : ℕ
   pub marks : ℕ → List ℕ
   pub few : stop ≤ length (t .word) + 1
-  pub whole : spent ≡ false → stop ≡ length (t .word) + 1
+  pub finished : spent ≡ false → stop ≡ length (t .word) + 1
   pub only : (i q : ℕ) → bitAt (marks i) q ≡ true → Reached (StartsAt o i) (Step t) q
   pub all : (i q : ℕ) → i < stop → Reached (StartsAt o i) (Step t) q → bitAt (marks i) q ≡ true
   pub fits : count + visits marks (length (t .word)) stop ≤ limit
@@ -53,7 +53,7 @@ pub record Filled (t : Automaton) (o : Target) (count limit : ℕ) (b : List ℕ
   pub over : spent ≡ true → (stop ≤ length (t .word)) × (limit < count + visits marks (length (t .word)) (stop + 1))
   pub spends : spent ≡ true → c ≡ limit
   pub bounded : c ≤ limit
-  pub rows : (i j : ℕ) → i < stop → i ≤ j → j ≤ length (t .word) → bitAt b (spanBit (blockOf t o) i j) ≡ ended (marks i) o j
+  pub rows : (i j : ℕ) → i < stop → i ≤ j → j ≤ length (t .word) → bitAt b (spanBit (blockOf t o) i j) ≡ judged (marks i) o j
   pub others : (q : ℕ) → InBlock (blockOf t o) q → bitAt b q ≡ true → (z : SpanAt (blockOf t o) q) × (z .start < stop)
   pub outside : (q : ℕ) → (InBlock (blockOf t o) q → ⊥) → bitAt b q ≡ bitAt (t .table) q
   pub long : length b ≡ length (t .table)

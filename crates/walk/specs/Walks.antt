@@ -4,13 +4,12 @@ use mathlib.Core.Path.{_≡_}
 use mathlib.Core.Logic.{_⊎_}
 use mathlib.Core.List.{List}
 use mathlib.Core.Bool.{Bool, true, false}
-use lib.ListN.{length, getD}
-use Rattle.bits.specs.Bit.{bitAt, tallyBelow, Adds}
+use lib.ListN.{length}
+use Rattle.bits.specs.Bit.{bitAt, tallyBelow}
 use Rattle.moves.specs.Reached.{Reached}
 use Rattle.moves.specs.Moves.{FreeMove}
-use Rattle.levels.specs.Sets.{Among, LetterExit}
+use Rattle.levels.specs.Sets.{Among}
 use Rattle.levels.specs.Exits.{hasSpan, SpanHere}
-use Rattle.marks.specs.Marks.{PlaceOf}
 use Rattle.walk.specs.Automaton.{Automaton, Step}
 
 -- ---- cached closures
@@ -37,8 +36,8 @@ pub record Pending (X : ℕ → Bool) (q : ℕ) : Type 0 where
   pub bit : X (128 * (q % 128 - 1) + q / 128) ≡ true
 
 -- p is marked, or is an exit to come at number j
-abbrev pub Given : (marks : List ℕ) (X : ℕ → Bool) (j p : ℕ) → Type 0
-Given a X j p = (bitAt a p ≡ true) ⊎ ((p / 128 ≡ j) × Pending X p)
+abbrev pub MarkedOrDue : (marks : List ℕ) (X : ℕ → Bool) (j p : ℕ) → Type 0
+MarkedOrDue a X j p = (bitAt a p ≡ true) ⊎ ((p / 128 ≡ j) × Pending X p)
 
 -- q is an exit to come of a special node whose entry is in the set, at number j
 pub record SpanExit (t : Automaton) (j : ℕ) (set : List ℕ) (q : ℕ) : Type 0 where
@@ -57,42 +56,15 @@ pub record Joins (j n : ℕ) (X : ℕ → Bool) (P : ℕ → Type 0) (Y : ℕ �
 pub record LevelSet (t : Automaton) (j : ℕ) (a : List ℕ) (X : ℕ → Bool) (e : List ℕ) (Y : ℕ → Bool) (u : List ℕ) : Type 0 where
   pub marked : (s : ℕ) → s < 128 → bitAt a (128 * j + s) ≡ true → bitAt e s ≡ true
   pub waiting : (p : ℕ) → p / 128 ≡ j → Pending X p → bitAt e (p % 128) ≡ true
-  pub only : (s : ℕ) → s < 128 → bitAt e s ≡ true → Reached (Given a X j) (Step t) (128 * j + s)
+  pub only : (s : ℕ) → s < 128 → bitAt e s ≡ true → Reached (MarkedOrDue a X j) (Step t) (128 * j + s)
   pub free : (s r : ℕ) → FreeMove (t .closed) s r → bitAt e s ≡ true → bitAt e r ≡ true
   pub here : (s r : ℕ) → SpanHere (t .specials) (t .firsts) (t .table) (length (t .word)) j s r → bitAt e s ≡ true → bitAt e r ≡ true
   pub exits : Joins j (length (t .word)) X (SpanExit t j e) Y
   pub inside : Among u (t .specials)
 
--- ---- the next number
-
--- q is the place, at the number after j, of the exit of a letter that event j of the word is, if there is one, and whose entry is in the set
-pub record NextExit (letters word set : List ℕ) (j q : ℕ) : Type 0 where
-  pub within : j < length word
-  pub number : q / 128 ≡ j + 1
-  pub exit : LetterExit letters set (getD word j 0) (q % 128)
-
--- the set's places at number j are marked and counted, and the next event is read
-pub record WentOn (letters word set : List ℕ) (j count limit : ℕ) (a b : List ℕ) (c : ℕ) : Type 0 where
-  pub middle : List ℕ
-  pub marked : Adds a (PlaceOf set j) middle
-  pub read : Adds middle (NextExit letters word set j) b
-  pub counted : c ≡ count + tallyBelow 128 (λ (s : ℕ). bitAt middle (128 * j + s))
-  pub bounded : c ≤ limit
-
--- the set's places at number j are marked, and with them the limit is passed
-pub record Stopped (set : List ℕ) (j count limit : ℕ) (a b : List ℕ) (c : ℕ) : Type 0 where
-  pub marked : Adds a (PlaceOf set j) b
-  pub spends : c ≡ limit
-  pub over : limit < count + tallyBelow 128 (λ (s : ℕ). bitAt b (128 * j + s))
-
--- the one or the other
-pub record Advanced (letters word set : List ℕ) (j count limit : ℕ) (a b : List ℕ) (c : ℕ) (spent : Bool) : Type 0 where
-  pub on : spent ≡ false → WentOn letters word set j count limit a b c
-  pub stop : spent ≡ true → Stopped set j count limit a b c
-
 -- ---- what a walk leaves
 
--- b is a with marks of places that are reached from its marks, and c is count and as many more. That is all of them, or, where they would be
+-- b has marks of places that are reached from the marks of a, and c is count and as many more. That is all of them, or, where they would be
 -- more than the limit, so many that the limit is passed, and c is the limit.
 pub record Walked (t : Automaton) (count limit : ℕ) (a b : List ℕ) (c : ℕ) (spent : Bool) : Type 0 where
   pub only : (q : ℕ) → bitAt b q ≡ true → Reached (λ (p : ℕ). bitAt a p ≡ true) (Step t) q

@@ -2,7 +2,7 @@
 ghost use mathlib.Core.Path.{_≡_};
 ghost use Prim.Native.Nat.{_<_};
 ghost use lib.ListN.{length};
-ghost use Rattle.levels.specs.Parts.{closedPart};
+ghost use Rattle.levels.specs.AutomatonParts.{closedPart};
 ghost use Rattle.levels.specs.Sets.{Reflexive, Transitive, AllLed};
 ghost use Rattle.walk.specs.Walks.{Remembered};
 

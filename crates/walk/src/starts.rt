@@ -9,7 +9,7 @@ use table::Block;
 ghost use mathlib.Core.Path.{_≡_};
 ghost use Prim.Native.Nat.{_<_, _≤_};
 ghost use lib.ListN.{length};
-ghost use Rattle.levels.specs.Parts.{closedPart};
+ghost use Rattle.levels.specs.AutomatonParts.{closedPart};
 ghost use Rattle.table.specs.Layout.{Lies};
 ghost use Rattle.walk.specs.Automaton.{automatonOf, Ready};
 ghost use Rattle.walk.specs.Filled.{blockOf};

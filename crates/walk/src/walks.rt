@@ -1,13 +1,13 @@
 // One walk, number by number of used events.
-use crate::level::advance;
 use crate::level::level;
 use marks::is_finished;
+use marks::steps::advance;
 ghost use mathlib.Core.Path.{_≡_};
 ghost use mathlib.Core.Bool.{true, false};
 ghost use Prim.Native.Nat.{ℕ, _+_, _/_, _≤_};
 ghost use lib.ListN.{length};
 ghost use Rattle.bits.specs.Bit.{bitAt};
-ghost use Rattle.levels.specs.Parts.{closedPart};
+ghost use Rattle.levels.specs.AutomatonParts.{closedPart};
 ghost use Rattle.marks.specs.Marks.{EndsBefore};
 ghost use Rattle.walk.specs.Automaton.{automatonOf, Ready};
 ghost use Rattle.walk.specs.Walks.{Remembered, Walked};

@@ -62,8 +62,9 @@ fn sample(call: &mut dyn FnMut(), calls: f64) -> f64 {
     begin.elapsed().as_secs_f64() * 1e6 / f64::from(calls)
 }
 
-/// The middle one of an odd number of values; the upper one of the two in the middle otherwise.
+/// The middle one of an odd number of values; halfway between the two in the middle otherwise.
 pub fn median(values: &mut [f64]) -> f64 {
     values.sort_by(f64::total_cmp);
-    values[values.len() / 2]
+    let (low, high) = ((values.len() - 1) / 2, values.len() / 2);
+    (values[low] + values[high]) / 2.0
 }

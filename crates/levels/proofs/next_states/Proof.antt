@@ -5,7 +5,7 @@ use lib.ListN.{drop, length-drop}
 use lib.Seq.{length-take-le}
 use native.Mathlib.Omega.{arith}
 use Rattle.levels.specs.Sets.{Exactly, LetterExit}
-use Rattle.levels.specs.Parts.{letterPart}
+use Rattle.levels.specs.AutomatonParts.{letterPart}
 use borrow.Author.Needs.{needs}
 use Rattle.levels.proofs.next_states.Statement.{statement}
 use Rattle.levels.proofs.next_states.Tie as tie

@@ -5,7 +5,7 @@ use Prim.Native.Nat.{ℕ, _+_, _-_}
 use lib.ListN.{length}
 use native.Mathlib.Omega.{arith}
 use Rattle.table.specs.Layout.{Lies, Cleared}
-use Rattle.levels.specs.Parts.{closedPart}
+use Rattle.levels.specs.AutomatonParts.{closedPart}
 use Rattle.walk.specs.Automaton.{automatonOf, Ready}
 use Rattle.walk.specs.Filled.{blockOf, Apart}
 use Rattle.walk.specs.Walks.{Remembered}

@@ -27,16 +27,16 @@ due-spec =
     (λ c κs. search needs)
     -- loop-holds
     (λ c. (search needs, dues-start _ _ _ (c .copy .ensures) (search needs) (c .before .before .before .before .before .pre .1 .1) (c .before .exits-of .ensures)))
-    -- slice-aggregate-first-missing
+    -- slice-aggregate-find-missing
     (λ c. search needs)
-    -- first-missing-requires
+    -- find-missing-requires
     (λ c κs. search needs)
     -- returns
-    (λ c. due-law (c .before .before .before .before .before .before .before .before .before .pre .1 .1) (c .before .before .before .before .before .exits-of .ensures) (dues-done _ _ _ (c .before .before .before .loop .inv .1) (c .before .first-missing .ensures) (c .if1 .taken)))
+    (λ c. due-law (c .before .before .before .before .before .before .before .before .before .pre .1 .1) (c .before .before .before .before .before .exits-of .ensures) (dues-done _ _ _ (c .before .before .before .loop .inv .1) (c .before .find-missing .ensures) (c .if1 .taken)))
     -- slice-aggregate-put-in-two
     (λ c. search needs)
     -- put-in-two-requires
-    (λ c κs. let w = c .before .before .first-missing .ensures .within in let t = c .before .before .before .before .loop .inv .1 .two in omega arith)
+    (λ c κs. let w = c .before .before .find-missing .ensures .within in let t = c .before .before .before .before .loop .inv .1 .two in omega arith)
     -- mul-put-if
     (λ c. search needs)
     -- add-put-if
@@ -47,7 +47,7 @@ due-spec =
     (λ c. search needs)
     -- put-if-requires
     (λ c κs.
-    let f = c .before .before .before .before .before .first-missing in
+    let f = c .before .before .before .before .before .find-missing in
     let w = f .ensures .within in
     let l : f .result < 128 = omega arith in
     let e = c .before .before .before .before .before .before .before .before .before .before .before .before .before .pre .1 .0 (f .result) l (f .ensures .there l) in
@@ -55,6 +55,6 @@ due-spec =
     let t = c .before .before .before .before .before .before .before .loop .inv .0 in
     omega arith)
     -- loop-less
-    (λ c. missing-less (c .before .before .before .before .before .before .before .first-missing .ensures) (c .before .before .before .before .before .before .if1 .left) (c .before .before .before .before .put-in-two .ensures))
+    (λ c. missing-less (c .before .before .before .before .before .before .before .find-missing .ensures) (c .before .before .before .before .before .before .if1 .left) (c .before .before .before .before .put-in-two .ensures))
     -- loop-again
-    (λ c. (c .before .put-if .ensures .long ∙ c .before .before .before .before .before .before .before .before .before .loop .inv .0, dues-turn _ _ _ (c .before .before .before .before .before .before .before .before .before .loop .inv .1) (c .before .before .before .before .before .before .before .first-missing .ensures) (c .before .before .before .before .before .before .if1 .left) (c .before .before .before .before .put-in-two .ensures) (c .before .put-if .ensures))))
+    (λ c. (c .before .put-if .ensures .long ∙ c .before .before .before .before .before .before .before .before .before .loop .inv .0, dues-turn _ _ _ (c .before .before .before .before .before .before .before .before .before .loop .inv .1) (c .before .before .before .before .before .before .before .find-missing .ensures) (c .before .before .before .before .before .before .if1 .left) (c .before .before .before .before .put-in-two .ensures) (c .before .put-if .ensures))))

@@ -35,7 +35,7 @@ follow-word-spec =
     let i = f .before .loop .inv in
     let e = o .before .if1 .left in
     rw (o .one .ensures)
-    (following-less (s .args .w) _ (f .before .loop .d) (f .first .result) (i .2) (omega arith) (s .pre .1) (i .0) (f .first .ensures) e))
+    (following-less (s .args .w) _ (f .before .loop .done) (f .first .result) (i .2) (omega arith) (s .pre .1) (i .0) (f .first .ensures) e))
     -- loop-again
     (λ c.
     let m = c .before .before in
@@ -45,6 +45,6 @@ follow-word-spec =
     let i = f .before .loop .inv in
     let e = o .before .if1 .left in
     let g =
-    following-turn (s .args .w) _ (f .before .loop .d) (f .first .result) (i .2) (omega arith) (s .pre .1) (i .0) (f .first .ensures) e
+    following-turn (s .args .w) _ (f .before .loop .done) (f .first .result) (i .2) (omega arith) (s .pre .1) (i .0) (f .first .ensures) e
     (m .lead .ensures) in
     (i .0, g .long ∙ s .pre .0 .2, rw (o .one .ensures) g)))

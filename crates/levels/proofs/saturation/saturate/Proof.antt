@@ -43,11 +43,11 @@ saturate-spec =
     (λ c. search needs)
     -- intersect-requires
     (λ c κs. search needs)
-    -- slice-aggregate-first-missing
+    -- slice-aggregate-find-missing
     (λ c. search needs)
-    -- slice-aggregate-first-missing-2
+    -- slice-aggregate-find-missing-2
     (λ c. search needs)
-    -- first-missing-requires
+    -- find-missing-requires
     (λ c κs. search needs)
     -- same-length
     (λ c. search needs)
@@ -56,16 +56,16 @@ saturate-spec =
     -- same-length-3
     (λ c. search needs)
     -- returns
-    (λ c. saturating-done _ _ _ _ _ _ _ _ _ _ (c .before .before .before .before .before .before .loop .inv) (c .before .before .before .before .intersect .ensures) (c .before .first-missing .ensures) (c .if1 .taken))
+    (λ c. saturating-done _ _ _ _ _ _ _ _ _ _ (c .before .before .before .before .before .before .loop .inv) (c .before .before .before .before .intersect .ensures) (c .before .find-missing .ensures) (c .if1 .taken))
     -- slice-aggregate-put-in-two
     (λ c. search needs)
     -- put-in-two-requires
-    (λ c κs. let w = c .before .before .first-missing .ensures .within in let l = c .before .before .before .before .before .before .before .loop .inv .lengths in omega arith)
+    (λ c κs. let w = c .before .before .find-missing .ensures .within in let l = c .before .before .before .before .before .before .before .loop .inv .lengths in omega arith)
     -- enter-requires
     (λ c κs.
     let i = c .before .before .before .before .before .before .before .before .before .before .before .before .loop .inv in
-    let w = c .before .before .before .before .before .before .before .first-missing .ensures .within in
-    let e = entry-even _ _ _ _ _ _ _ _ _ _ i (c .before .before .before .before .before .before .before .before .before .before .intersect .ensures) (c .before .before .before .before .before .before .before .first-missing .ensures) (c .before .before .before .before .before .before .if1 .left) in
+    let w = c .before .before .before .before .before .before .before .find-missing .ensures .within in
+    let e = entry-even _ _ _ _ _ _ _ _ _ _ i (c .before .before .before .before .before .before .before .before .before .before .intersect .ensures) (c .before .before .before .before .before .before .before .find-missing .ensures) (c .before .before .before .before .before .before .if1 .left) in
     let l = i .lengths in
     ((c .before .before .before .before .before .before .before .before .before .before .before .before .before .before .before .before .before .before .before .before .before .before .before .before .pre .0 .2, l .0, l .1, l .2), ((omega arith, e, i .ground .number), i .ground .room)))
     -- add-lead-if
@@ -75,10 +75,10 @@ saturate-spec =
     -- lead-if-requires
     (λ c κs.
     let i = c .before .before .before .before .before .before .before .before .before .before .before .before .before .before .before .before .before .before .before .before .loop .inv in
-    let e = entry-small _ _ _ _ _ _ _ _ _ _ i (c .before .before .before .before .before .before .before .before .before .before .before .before .before .before .before .before .before .before .intersect .ensures) (c .before .before .before .before .before .before .before .before .before .before .before .before .before .before .before .first-missing .ensures) (c .before .before .before .before .before .before .before .before .before .before .before .before .before .before .if1 .left) in
+    let e = entry-small _ _ _ _ _ _ _ _ _ _ i (c .before .before .before .before .before .before .before .before .before .before .before .before .before .before .before .before .before .before .intersect .ensures) (c .before .before .before .before .before .before .before .before .before .before .before .before .before .before .before .find-missing .ensures) (c .before .before .before .before .before .before .before .before .before .before .before .before .before .before .if1 .left) in
     (i .ground .long, omega arith, i .lengths .4))
     -- loop-less
-    (λ c. missing-less (c .before .before .before .before .before .before .before .before .before .before .before .before .before .before .before .before .before .first-missing .ensures) (c .before .before .before .before .before .before .before .before .before .before .before .before .before .before .before .before .if1 .left) (c .before .before .before .before .before .before .before .before .before .before .before .before .before .before .put-in-two .ensures))
+    (λ c. missing-less (c .before .before .before .before .before .before .before .before .before .before .before .before .before .before .before .before .before .find-missing .ensures) (c .before .before .before .before .before .before .before .before .before .before .before .before .before .before .before .before .if1 .left) (c .before .before .before .before .before .before .before .before .before .before .before .before .before .before .put-in-two .ensures))
     -- loop-again
-    (λ c. saturating-turn _ _ _ _ _ _ _ _ _ _ (c .before .before .before .before .before .before .before .before .before .before .before .before .before .before .before .before .before .before .before .before .before .before .loop .inv) (c .before .before .before .before .before .before .before .before .before .before .before .before .before .before .before .before .before .before .before .before .intersect .ensures) (c .before .before .before .before .before .before .before .before .before .before .before .before .before .before .before .before .before .first-missing .ensures) (c .before .before .before .before .before .before .before .before .before .before .before .before .before .before .before .before .if1 .left)
+    (λ c. saturating-turn _ _ _ _ _ _ _ _ _ _ (c .before .before .before .before .before .before .before .before .before .before .before .before .before .before .before .before .before .before .before .before .before .before .loop .inv) (c .before .before .before .before .before .before .before .before .before .before .before .before .before .before .before .before .before .before .before .before .intersect .ensures) (c .before .before .before .before .before .before .before .before .before .before .before .before .before .before .before .before .before .find-missing .ensures) (c .before .before .before .before .before .before .before .before .before .before .before .before .before .before .before .before .if1 .left)
     (c .before .before .before .before .before .before .before .before .before .before .before .before .before .before .put-in-two .ensures) (c .before .before .before .before .before .before .before .before .before .enter .ensures .0) (c .before .before .before .before .before .before .before .before .before .enter .ensures .1) (c .before .lead-if .ensures)))

@@ -14,7 +14,7 @@ add-letter-spec =
     (λ c. omega arith)
     (λ c.
     let p = c .before .before in
-    rw (p .before .before .before .k .given .1) (letter-put _ _ (omega arith) (p .put .ensures .1)))
+    rw (p .before .before .before .kind .given .1) (letter-put _ _ (omega arith) (p .put .ensures .1)))
     (λ c. letter-none _ _ (ap isLetter (c .enum-told .given .1)))
     (λ c. letter-none _ _ (ap isLetter (c .enum-told2 .given .1)))
     (λ c. letter-none _ _ (ap isLetter (c .enum-told3 .given .1)))

@@ -3,7 +3,7 @@ use Prim.Native.Nat.{_-_, _<_}
 use native.Mathlib.Omega.{arith}
 use mathlib.Core.Path.{refl, sym, subst, _∙_}
 use mathlib.Core.Logic.{⊎-elim}
-use Rattle.levels.specs.Parts.{firstPart}
+use Rattle.levels.specs.AutomatonParts.{firstPart}
 use Rattle.owners.specs.Filling.{treeFrom}
 use Rattle.owners.proofs.Settings.{relent}
 use Rattle.owners.proofs.Turning.{Turning, plain-turn, turning-begins, turning-on, turning-same, turning-spent, turning-ends}

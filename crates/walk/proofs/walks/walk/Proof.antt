@@ -4,7 +4,7 @@ use mathlib.Core.Bool.{true, false, true≢false}
 use Prim.Native.Nat.{_+_, _-_}
 use lib.ListN.{length}
 use native.Mathlib.Omega.{arith}
-use Rattle.levels.specs.Parts.{closedPart}
+use Rattle.levels.specs.AutomatonParts.{closedPart}
 use Rattle.levels.specs.Exits.{Full}
 use Rattle.walk.specs.Automaton.{automatonOf}
 use Rattle.walk.specs.Walks.{Remembered, Walked}

@@ -11,8 +11,8 @@ use Rattle.bits.proofs.Laws.{zeros-bit}
 use Rattle.levels.proofs.SetLaws.{same-bits}
 use Rattle.marks.proofs.RowLaws.{both-law, one-span}
 use borrow.Author.Needs.{needs}
-use Rattle.marks.proofs.rows.row_at_start.Statement.{statement}
-use Rattle.marks.proofs.rows.row_at_start.Tie as tie
+use Rattle.marks.proofs.ends.row_at_start.Statement.{statement}
+use Rattle.marks.proofs.ends.row_at_start.Tie as tie
 
 pub row-at-start-spec : {M : Type 1} → statement M
 row-at-start-spec =

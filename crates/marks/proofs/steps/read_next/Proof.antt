@@ -8,8 +8,8 @@ use native.Mathlib.Omega.{arith}
 use Rattle.bits.specs.Bit.{bitAt}
 use Rattle.bits.proofs.Laws.{adds-none, adds-as, zeros-bit}
 use borrow.Author.Needs.{needs}
-use Rattle.walk.proofs.level.read_next.Statement.{statement}
-use Rattle.walk.proofs.level.read_next.Tie as tie
+use Rattle.marks.proofs.steps.read_next.Statement.{statement}
+use Rattle.marks.proofs.steps.read_next.Tie as tie
 
 pub read-next-spec : {M : Type 1} → statement M
 read-next-spec =

@@ -1,8 +1,8 @@
 -- `in_set` reads one bit of two numbers. Assumes nothing.
 use Rattle.marks.proofs.RowLaws.{in-low, in-high}
 use borrow.Author.Needs.{needs}
-use Rattle.marks.proofs.rows.in_set.Statement.{statement}
-use Rattle.marks.proofs.rows.in_set.Tie as tie
+use Rattle.marks.proofs.ends.in_set.Statement.{statement}
+use Rattle.marks.proofs.ends.in_set.Tie as tie
 
 pub in-set-spec : {M : Type 1} → statement M
 in-set-spec =

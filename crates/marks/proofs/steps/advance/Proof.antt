@@ -2,10 +2,10 @@
 use mathlib.Core.Path.{refl, _∙_}
 use mathlib.Core.Bool.{false≢true, true≢false}
 use native.Mathlib.Omega.{arith}
 use Rattle.marks.proofs.MarkLaws.{stored-adds}
 use borrow.Author.Needs.{needs}
-use Rattle.walk.proofs.level.advance.Statement.{statement}
-use Rattle.walk.proofs.level.advance.Tie as tie
+use Rattle.marks.proofs.steps.advance.Statement.{statement}
+use Rattle.marks.proofs.steps.advance.Tie as tie
 
 pub advance-spec : {M : Type 1} → statement M
 advance-spec =

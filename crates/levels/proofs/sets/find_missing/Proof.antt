@@ -1,12 +1,12 @@
--- `first_missing` finds a state that one set has and another lacks. Assumes nothing.
+-- `find_missing` finds a state that one set has and another lacks. Assumes nothing.
 use borrow.Author.Needs.{needs}
 use native.Mathlib.Omega.{arith}
 use Rattle.levels.proofs.SetLaws.{missing-low, missing-high}
-use Rattle.levels.proofs.sets.first_missing.Statement.{statement}
-use Rattle.levels.proofs.sets.first_missing.Tie as tie
+use Rattle.levels.proofs.sets.find_missing.Statement.{statement}
+use Rattle.levels.proofs.sets.find_missing.Tie as tie
 
-pub first-missing-spec : {M : Type 1} → statement M
-first-missing-spec =
+pub find-missing-spec : {M : Type 1} → statement M
+find-missing-spec =
     tie.close (tie.spec
     (λ c. search needs) (λ c. search needs) (λ c κs. search needs)
     -- returns
