@@ -1,10 +1,12 @@
 -- Marked places of a walk. A place is a number p: state p % 128 where p / 128 events are used. Assumes nothing.
-use Prim.Native.Nat.{ℕ, _+_, _*_, _/_, _%_, _<_}
+use Prim.Native.Nat.{ℕ, _+_, _-_, _*_, _/_, _%_, _<_}
 use mathlib.Core.Path.{_≡_}
 use mathlib.Core.List.{List}
+use mathlib.Core.Logic.{_⊎_}
 use mathlib.Core.Bool.{true}
 use lib.ListN.{length}
 use Rattle.bits.specs.Bit.{bitAt}
+use Rattle.marks.specs.declared.Target.{Target}
 
 -- q is the place of a state of the set, at number j
 pub record PlaceOf (set : List ℕ) (j q : ℕ) : Type 0 where
@@ -38,3 +40,7 @@ pub record Finished (marks opened : List ℕ) (j : ℕ) : Type 0 where
 -- nothing is marked from number k on
 abbrev pub EndsBefore : (marks : List ℕ) (k : ℕ) → Type 0
 EndsBefore b k = (q : ℕ) → bitAt b q ≡ true → q / 128 < k
+
+-- p is where a walk of the target from start i begins: at the entries before its exits
+abbrev pub StartsAt : (o : Target) (i p : ℕ) → Type 0
+StartsAt o i p = (p ≡ 128 * i + (o .left - 1)) ⊎ (p ≡ 128 * i + (o .right - 1))

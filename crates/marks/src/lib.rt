@@ -10,7 +10,7 @@ ghost use mathlib.Core.Logic.{_↔_};
 ghost use Prim.Native.Nat.{ℕ, _+_, _*_, _≤_, _<_};
 ghost use lib.ListN.{length};
 ghost use Rattle.bits.specs.Bit.{hasBit, bitAt, tallyBelow, Adds};
-ghost use Rattle.marks.specs.Marks.{PlaceOf, StoredAt, MarkedAt, Finished};
+ghost use Rattle.marks.specs.Marks.{StartsAt, PlaceOf, StoredAt, MarkedAt, Finished};
 
 // What an owner's walks fill: they begin before the exits left and right and end at them; the first number of the block; whether it has
 // the spans at which they end or those at which they do not.
@@ -25,6 +25,18 @@ pub struct Target {
 pub struct Tally {
     pub count: u64,
     pub spent: bool,
+}
+
+// Marks where a walk of the target from start i begins.
+pub fn mark_start(marks: &mut [u64], target: Target, i: usize)
+    requires { ⌜ (length (now marks) ≡ 512) × (i < 256) × (0 < target .left) × (target .left < 128)
+        × (0 < target .right) × (target .right < 128) ⌝ }
+    ensures { λ _. ⌜ Adds (now (marks .entry)) (StartsAt target i) (now (marks .exit)) ⌝ }
+{
+    let left = target.left;
+    let right = target.right;
+    bits::put(marks, 128 * i + (left - 1));
+    bits::put(marks, 128 * i + (right - 1));
 }
 
 // Adds the states that are marked at number j to a set.

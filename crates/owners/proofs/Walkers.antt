@@ -16,8 +16,9 @@ use Rattle.table.proofs.LayoutLaws.{holds-block}
 use Rattle.levels.specs.AutomatonParts.{specialPart, firstPart}
 use Rattle.marks.specs.declared.Target.{Target}
 use Rattle.walk.specs.Automaton.{Automaton, automatonOf, Step}
+use Rattle.marks.specs.Marks.{StartsAt}
 use Rattle.marks.specs.Rows.{decide, judged}
-use Rattle.walk.specs.Filled.{StartsAt, Apart, Filled}
+use Rattle.walk.specs.Filled.{Apart, Filled}
 use Rattle.work.specs.Walk.{exit, Part, itself, intersection-left, intersection-right, complement-inner, Owner, whole, special}
 use Rattle.work.specs.SizeOf.{SizeOf}
 use Rattle.work.specs.Count.{sumTo, places}

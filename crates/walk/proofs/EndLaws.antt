@@ -9,11 +9,10 @@ use lib.ListN.{length, replicate}
 use Rattle.bits.specs.Bit.{bitAt}
 use Rattle.moves.specs.Reached.{Reached, start, after}
 use Rattle.marks.specs.declared.Target.{Target}
-use Rattle.marks.specs.Marks.{StoredAt}
+use Rattle.marks.specs.Marks.{StoredAt, StartsAt}
 use Rattle.marks.specs.Ends.{Initial, EndsThere, EndedRow}
 use Rattle.marks.proofs.EndLaws.{at-number, marks-size}
 use Rattle.walk.specs.Automaton.{Automaton, FreeStep, LetterStep, SpanStep, Step, Ready}
-use Rattle.walk.specs.Filled.{StartsAt}
 use Rattle.walk.specs.Starts.{Started}
 
 -- ---- a walk that goes no further

@@ -19,7 +19,8 @@ use Rattle.table.specs.Layout.{blockAt, spanBit, Lies, InBlock, SpanAt, RowSpan
 use Rattle.table.proofs.LayoutLaws.{span-in, span-one}
 use Rattle.marks.specs.declared.Target.{Target}
 use Rattle.walk.specs.Automaton.{Automaton, FreeStep, LetterStep, SpanStep, Step, Ready}
-use Rattle.walk.specs.Filled.{blockOf, StartsAt, Apart, sumBelow, visits, Filled}
+use Rattle.walk.specs.Filled.{blockOf, Apart, sumBelow, visits, Filled}
+use Rattle.marks.specs.Marks.{StartsAt}
 use Rattle.marks.specs.Rows.{judged}
 use Rattle.walk.specs.Starts.{Started}
 use Rattle.marks.specs.Rows.{rowOf}

@@ -13,9 +13,10 @@ use Rattle.moves.proofs.Paths.{reached-from}
 use Rattle.table.specs.Layout.{RowSpan}
 use Rattle.marks.specs.declared.Target.{Target}
 use Rattle.walk.specs.Automaton.{Automaton}
-use Rattle.walk.specs.Filled.{blockOf, StartsAt}
+use Rattle.walk.specs.Filled.{blockOf}
 use Rattle.walk.specs.Walks.{Walked}
 use Rattle.walk.specs.Starts.{Started}
+use Rattle.marks.specs.Marks.{StartsAt}
 use Rattle.marks.specs.Rows.{rowOf}
 
 starts-only : {a : List ℕ} (o : Target) (i : ℕ) → Adds (replicate 512 0) (StartsAt o i) a → (q : ℕ) → bitAt a q ≡ true → StartsAt o i q

@@ -8,6 +8,7 @@ use lib.ListN.{length, getD}
 use Rattle.bits.specs.Bit.{bitAt, tallyBelow}
 use Rattle.moves.specs.Reached.{Reached}
 use Rattle.marks.specs.declared.Target.{Target}
+use Rattle.marks.specs.Marks.{StartsAt}
 use Rattle.marks.specs.Rows.{judged}
 use Rattle.table.specs.declared.Block.{Block}
 use Rattle.table.specs.Layout.{blockAt, spanBit, InBlock, SpanAt}
@@ -17,10 +18,6 @@ use Rattle.walk.specs.Automaton.{Automaton, Step}
 -- the target's block in the automaton's table
 abbrev pub blockOf : Automaton → Target → Block
 blockOf t o = blockAt (o .first) (length (t .word))
-
--- where a walk of start i begins: at the entries before the exits
-abbrev pub StartsAt : (o : Target) (i p : ℕ) → Type 0
-StartsAt o i p = (p ≡ 128 * i + (o .left - 1)) ⊎ (p ≡ 128 * i + (o .right - 1))
 
 -- the target's block is none of those that its walks go by
 abbrev pub Apart : (t : Automaton) (o : Target) → Type 0

@@ -8,9 +8,10 @@ use Rattle.bits.specs.Bit.{bitAt, tallyBelow, Adds}
 use Rattle.moves.specs.Reached.{Reached}
 use Rattle.table.specs.Layout.{RowSpan}
 use Rattle.marks.specs.declared.Target.{Target}
+use Rattle.marks.specs.Marks.{StartsAt}
 use Rattle.marks.specs.Rows.{rowOf}
 use Rattle.walk.specs.Automaton.{Automaton, Step}
-use Rattle.walk.specs.Filled.{blockOf, StartsAt}
+use Rattle.walk.specs.Filled.{blockOf}
 
 -- the walk of one start: its marks are the places reached, each of which was counted, and its row's spans were added to the table
 pub record Started (t : Automaton) (o : Target) (i count limit : ℕ) (b : List ℕ) (c : ℕ) (spent : Bool) : Type 0 where

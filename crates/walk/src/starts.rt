@@ -4,6 +4,7 @@ use marks::Tally;
 use marks::Target;
 use marks::ends::ends_there;
 use marks::ends::fill_ended;
+use marks::mark_start;
 use marks::rows::row_of;
 use table::Block;
 ghost use mathlib.Core.Path.{_≡_};
@@ -39,10 +40,7 @@ fn fill_walked(
     ensures cache { λ _. ⌜ Remembered (closedPart (now (automaton .entry))) (now (cache .exit)) ⌝ }
 {
     let mut marks = [0u64; 512];
-    let left = target.left;
-    let right = target.right;
-    bits::put(&mut marks, 128 * i + (left - 1));
-    bits::put(&mut marks, 128 * i + (right - 1));
+    mark_start(&mut marks, target, i);
     let t = walk(
         automaton,
         word,

@@ -2,7 +2,6 @@
 use mathlib.Core.Path.{refl, _∙_}
 use mathlib.Core.Bool.{true≢false, false≢true}
 use native.Mathlib.Omega.{arith}
-use Rattle.bits.proofs.Laws.{put-adds, adds-then}
 use Rattle.walk.proofs.StartLaws.{starts-at, started}
 use Rattle.marks.proofs.RowLaws.{row-spans}
 use borrow.Author.Needs.{needs}
@@ -12,34 +11,18 @@ use Rattle.walk.proofs.starts.fill_walked.Tie as tie
 pub fill-walked-spec : {M : Type 1} → statement M
 fill-walked-spec =
     tie.close (tie.spec
-    -- slice-aggregate-put
+    -- slice-aggregate-mark-start
     (λ c. search needs)
-    -- mul-put
-    (λ c. search needs)
-    -- sub-put
-    (λ c. search needs)
-    -- add-put
-    (λ c. search needs)
-    -- put-requires
-    (λ c κs. search needs)
-    -- slice-aggregate-put-2
-    (λ c. search needs)
-    -- mul-put-2
-    (λ c. search needs)
-    -- sub-put-2
-    (λ c. search needs)
-    -- add-put-2
-    (λ c. search needs)
-    -- put-requires-2
+    -- mark-start-requires
     (λ c κs. search needs)
     -- slice-aggregate-walk
     (λ c. search needs)
     -- walk-requires
     (λ c κs.
-    let a = c .before .before .before .before .before .before .before .before .before .before .before .before .before .before .before .args in
-    let p = c .before .before .before .before .before .before .before .before .before .before .before .before .before .before .before .pre in
+    let a = c .before .before .before .before .before .before .before .before .before .before .before .before .args in
+    let p = c .before .before .before .before .before .before .before .before .before .before .before .before .pre in
     let l = p .1 .1 .0 in
-    let b = adds-then (put-adds (c .before .before .before .before .before .before .before .before .put .ensures .1)) (put-adds (c .before .before .before .before .before .put2 .ensures .1)) in
+    let b = c .before .before .before .before .before .mark-start .ensures in
     (p .0, ((l .0, b .long, l .1, l .2, l .3), (starts-at (a .target) (a .i) (p .1 .1 .1 .0) b, p .1 .1 .1 .1))))
     -- same-length
     (λ c. search needs)
@@ -49,8 +32,8 @@ fill-walked-spec =
     (λ c. search needs)
     -- returns
     (λ c.
-    let a = c .before .before .before .before .before .before .before .before .before .before .before .before .before .before .before .before .before .before .before .before .before .before .args in
-    let b = adds-then (put-adds (c .before .before .before .before .before .before .before .before .before .before .before .before .before .before .before .put .ensures .1)) (put-adds (c .before .before .before .before .before .before .before .before .before .before .before .before .put2 .ensures .1)) in (
+    let a = c .before .before .before .before .before .before .before .before .before .before .before .before .before .before .before .before .before .before .before .args in
+    let b = c .before .before .before .before .before .before .before .before .before .before .before .before .mark-start .ensures in (
       started (a .target) (a .i) b (c .before .before .before .before .before .before .walk .ensures .0) (c .if1 .taken) (λ f. absurd (true≢false f)) (λ _. refl),
       c .before .before .before .before .before .before .walk .ensures .1 .1,
     ))
@@ -58,17 +41,17 @@ fill-walked-spec =
     (λ c. search needs)
     -- row-of-requires
     (λ c κs.
-    let p = c .before .before .before .before .before .before .before .before .before .before .before .before .before .before .before .before .before .before .before .before .before .before .before .pre in
+    let p = c .before .before .before .before .before .before .before .before .before .before .before .before .before .before .before .before .before .before .before .before .pre in
     let d = p .1 .1 .1 .0 in
     let e = c .before .before .before .before .before .before .before .walk .ensures .1 .0 in
-    let l = c .before .before .before .before .before .before .before .walk .ensures .0 .long ∙ c .before .before .before .before .before .before .before .before .before .before .before .before .before .put2 .ensures .1 .long ∙ c .before .before .before .before .before .before .before .before .before .before .before .before .before .before .before .before .put .ensures .1 .long in
+    let l = c .before .before .before .before .before .before .before .walk .ensures .0 .long ∙ c .before .before .before .before .before .before .before .before .before .before .before .before .before .mark-start .ensures .long in
     ((l, p .1 .1 .0 .2, p .0 .word, e .0), ((d .1, d .3), e .1 (c .before .if1 .left))))
     -- slice-aggregate-add-row
     (λ c. search needs)
     -- add-row-requires
     (λ c κs.
-    let a = c .before .before .before .before .before .before .before .before .before .before .before .before .before .before .before .before .before .before .before .before .before .before .before .before .before .before .args in
-    let p = c .before .before .before .before .before .before .before .before .before .before .before .before .before .before .before .before .before .before .before .before .before .before .before .before .before .before .pre in
+    let a = c .before .before .before .before .before .before .before .before .before .before .before .before .before .before .before .before .before .before .before .before .before .before .before .args in
+    let p = c .before .before .before .before .before .before .before .before .before .before .before .before .before .before .before .before .before .before .before .before .before .before .before .pre in
     (p .1 .0, ((p .1 .1 .0 .2, search needs), row-spans _ (a .target) (a .i) _ _ (search needs) (c .before .before .row-of .ensures))))
     -- same-length-4
     (λ c. search needs)
@@ -78,8 +61,8 @@ fill-walked-spec =
     (λ c. search needs)
     -- returns-2
     (λ c.
-    let a = c .before .before .before .before .before .before .before .before .before .before .before .before .before .before .before .before .before .before .before .before .before .before .before .before .before .before .before .before .before .args in
-    let b = adds-then (put-adds (c .before .before .before .before .before .before .before .before .before .before .before .before .before .before .before .before .before .before .before .before .before .before .put .ensures .1)) (put-adds (c .before .before .before .before .before .before .before .before .before .before .before .before .before .before .before .before .before .before .before .put2 .ensures .1)) in (
+    let a = c .before .before .before .before .before .before .before .before .before .before .before .before .before .before .before .before .before .before .before .before .before .before .before .before .before .before .args in
+    let b = c .before .before .before .before .before .before .before .before .before .before .before .before .before .before .before .before .before .before .before .mark-start .ensures in (
       started (a .target) (a .i) b (c .before .before .before .before .before .before .before .before .before .before .before .before .before .walk .ensures .0) (c .before .before .before .before .before .before .before .if1 .left) (λ _. (_, c .before .before .before .before .before .row-of .ensures, c .before .before .add-row .ensures))
           (λ f. absurd (false≢true f)),
       c .before .before .before .before .before .before .before .before .before .before .before .before .before .walk .ensures .1 .1,
