@@ -16,16 +16,17 @@ pub fn cached_closure(automaton: &[u64], set: &[u64], cache: &mut [u64], j: usiz
     ensures states { λ r. ⌜ AllLed (closedPart (now (automaton .entry))) (now (set .entry)) r ⌝ }
     ensures cache { λ _. ⌜ Remembered (closedPart (now (automaton .entry))) (now (cache .exit)) ⌝ }
 {
-    if cache[4 * j] == set[0] && cache[4 * j + 1] == set[1] {
+    let at = 4 * j;
+    if cache[at] == set[0] && cache[at + 1] == set[1] {
         let mut found = [0u64; 2];
-        found[0] = cache[4 * j + 2];
-        found[1] = cache[4 * j + 3];
+        found[0] = cache[at + 2];
+        found[1] = cache[at + 3];
         return found;
     }
     let closure = levels::closure(automaton, set);
-    cache[4 * j] = set[0];
-    cache[4 * j + 1] = set[1];
-    cache[4 * j + 2] = closure[0];
-    cache[4 * j + 3] = closure[1];
+    cache[at] = set[0];
+    cache[at + 1] = set[1];
+    cache[at + 2] = closure[0];
+    cache[at + 3] = closure[1];
     closure
 }

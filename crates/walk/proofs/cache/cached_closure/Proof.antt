@@ -11,39 +11,33 @@ use Rattle.walk.proofs.cache.cached_closure.Tie as tie
 pub cached-closure-spec : {M : Type 1} → statement M
 cached-closure-spec =
     tie.close (tie.spec
-    -- mul-if1
+    -- mul-at
     (λ c. search needs)
-    -- mul-if1-2
+    -- mul-if1
     (λ c. search needs)
     -- slice-read-if1
     (λ c. search needs)
     -- shared-slice-read-if1
     (λ c. search needs)
-    -- mul-if2
-    (λ c. search needs)
     -- add-if2
     (λ c. search needs)
-    -- mul-if2-2
+    -- mul-if2
     (λ c. search needs)
     -- slice-read-if2
     (λ c. search needs)
     -- shared-slice-read-if2
     (λ c. search needs)
-    -- mul-found
-    (λ c. search needs)
     -- add-found
     (λ c. search needs)
-    -- mul-found-2
+    -- mul-found
     (λ c. search needs)
     -- slice-read-found
     (λ c. search needs)
     -- array-write-found
     (λ c. search needs)
-    -- mul-found-3
-    (λ c. search needs)
     -- add-found-2
     (λ c. search needs)
-    -- mul-found-4
+    -- mul-found-2
     (λ c. search needs)
     -- slice-read-found-2
     (λ c. search needs)
@@ -62,37 +56,29 @@ cached-closure-spec =
     (λ c. search needs)
     -- mul-cache
     (λ c. search needs)
-    -- mul-cache-2
-    (λ c. search needs)
     -- slice-write-cache
     (λ c. search needs)
     -- shared-slice-read-cache-2
     (λ c. search needs)
-    -- mul-cache-3
-    (λ c. search needs)
     -- add-cache
     (λ c. search needs)
-    -- mul-cache-4
+    -- mul-cache-2
     (λ c. search needs)
     -- slice-write-cache-2
     (λ c. let p = c .before .before .before .before .before .before .before .before .before .pre in let m = p .1 .1 .1 .long in let l = p .0 .2 in simp length-set (omega arith))
     -- array-read-cache
     (λ c. search needs)
-    -- mul-cache-5
-    (λ c. search needs)
     -- add-cache-2
     (λ c. search needs)
-    -- mul-cache-6
+    -- mul-cache-3
     (λ c. search needs)
     -- slice-write-cache-3
     (λ c. let p = c .before .before .before .before .before .before .before .before .before .pre in let m = p .1 .1 .1 .long in let l = p .0 .2 in simp length-set (omega arith))
     -- array-read-cache-2
     (λ c. search needs)
-    -- mul-cache-7
-    (λ c. search needs)
     -- add-cache-3
     (λ c. search needs)
-    -- mul-cache-8
+    -- mul-cache-4
     (λ c. search needs)
     -- slice-write-cache-4
     (λ c. let p = c .before .before .before .before .before .before .before .before .before .pre in let m = p .1 .1 .1 .long in let l = p .0 .2 in simp length-set (omega arith))

@@ -1,5 +1,5 @@
 -- `level` comes to what is reached at one number. Assumes nothing.
-use mathlib.Core.Path.{_∙_}
+use mathlib.Core.Path.{sym, _∙_}
 use lib.ListN.{length}
 use native.Mathlib.Omega.{arith}
 use Rattle.walk.specs.Automaton.{automatonOf}
@@ -45,13 +45,13 @@ level-spec =
     (c .before .before .before .before .before .before .before .before .before .before .before .before .due-exits .ensures) (c .before .before .before .before .before .before .before .before .before .before .add-marked .ensures) (c .before .before .before .before .before .before .cached-closure .ensures .0) in
     ((l .0, search needs, l .4), ((l .2, l .3, f .two), (r .reflexive, (r .transitive, (r .special, (r .room, b)))))))
     -- same-length
-    (λ c. search needs)
+    (λ c. c .before .before .before .before .before .before .before .before .before .before .before .before .before .cached-closure .ensures .1 .long ∙ sym (c .before .before .before .before .before .before .before .before .before .before .before .before .before .before .before .before .before .before .before .before .before .before .before .before .before .before .before .before .before .before .before .pre .1 .1 .1 .1 .long))
     -- same-length-2
-    (λ c. search needs)
+    (λ c. c .before .before .before .before .before .before .saturate .ensures .lengths .0)
     -- same-length-3
-    (λ c. search needs)
+    (λ c. c .before .before .before .before .before .before .saturate .ensures .opened .long)
     -- same-length-4
-    (λ c. search needs)
+    (λ c. c .before .before .before .before .before .before .saturate .ensures .lengths .1)
     -- returns
     (λ c.
     let p = c .before .before .before .before .before .before .before .before .before .before .before .before .before .before .before .before .before .before .before .before .before .before .before .before .before .before .before .before .before .before .before .pre in

@@ -1,5 +1,5 @@
 -- `fill_walked` walks from one start, and adds its row. Assumes nothing.
-use mathlib.Core.Path.{refl, _∙_}
+use mathlib.Core.Path.{refl, sym, _∙_}
 use mathlib.Core.Bool.{true≢false, false≢true}
 use native.Mathlib.Omega.{arith}
 use Rattle.walk.proofs.StartLaws.{starts-at, started}
@@ -25,11 +25,11 @@ fill-walked-spec =
     let b = c .before .before .before .before .before .mark-start .ensures in
     (p .0, ((l .0, b .long, l .1, l .2, l .3), (starts-at (a .target) (a .i) (p .1 .1 .1 .0) b, p .1 .1 .1 .1))))
     -- same-length
-    (λ c. search needs)
+    (λ c. refl)
     -- same-length-2
-    (λ c. search needs)
+    (λ c. c .before .before .before .before .before .before .walk .ensures .1 .1 .long ∙ sym (c .before .before .before .before .before .before .before .before .before .before .before .before .before .before .before .before .before .before .before .pre .1 .1 .1 .1 .long))
     -- same-length-3
-    (λ c. search needs)
+    (λ c. c .before .before .before .before .before .before .walk .kept .1 .1 .1 .1 .1 .0)
     -- returns
     (λ c.
     let a = c .before .before .before .before .before .before .before .before .before .before .before .before .before .before .before .before .before .before .before .args in
@@ -54,11 +54,11 @@ fill-walked-spec =
     let p = c .before .before .before .before .before .before .before .before .before .before .before .before .before .before .before .before .before .before .before .before .before .before .before .pre in
     (p .1 .0, ((p .1 .1 .0 .2, search needs), row-spans _ (a .target) (a .i) _ _ (search needs) (c .before .before .row-of .ensures))))
     -- same-length-4
-    (λ c. search needs)
+    (λ c. c .before .before .add-row .ensures .long)
     -- same-length-5
-    (λ c. search needs)
+    (λ c. c .before .before .before .before .before .before .before .before .before .before .before .before .before .walk .ensures .1 .1 .long ∙ sym (c .before .before .before .before .before .before .before .before .before .before .before .before .before .before .before .before .before .before .before .before .before .before .before .before .before .before .pre .1 .1 .1 .1 .long))
     -- same-length-6
-    (λ c. search needs)
+    (λ c. c .before .before .before .before .before .before .before .before .before .before .before .before .before .walk .kept .1 .1 .1 .1 .1 .0)
     -- returns-2
     (λ c.
     let a = c .before .before .before .before .before .before .before .before .before .before .before .before .before .before .before .before .before .before .before .before .before .before .before .before .before .before .args in

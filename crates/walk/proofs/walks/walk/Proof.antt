@@ -1,5 +1,5 @@
 -- `walk` goes through the numbers from i on, until nothing is left or the limit is passed. Assumes nothing.
-use mathlib.Core.Path.{_≡_, _∙_, subst}
+use mathlib.Core.Path.{_≡_, sym, _∙_, subst}
 use mathlib.Core.Bool.{true, false, true≢false}
 use Prim.Native.Nat.{_+_, _-_}
 use lib.ListN.{length}
@@ -40,11 +40,11 @@ walk-spec =
     let j = c .before .before .loop-test .taken in
     (n .0, n .2, omega arith))
     -- same-length
-    (λ c. search needs)
+    (λ c. c .before .before .before .before .before .loop .inv .0 .lengths .0 ∙ sym (c .before .before .before .before .before .before .before .before .before .before .before .before .pre .1 .0 .1))
     -- same-length-2
-    (λ c. search needs)
+    (λ c. c .before .before .before .before .before .loop .inv .2 .long ∙ sym (c .before .before .before .before .before .before .before .before .before .before .before .before .pre .1 .1 .1 .long))
     -- same-length-3
-    (λ c. search needs)
+    (λ c. c .before .before .before .before .before .loop .inv .0 .lengths .1 ∙ sym (c .before .before .before .before .before .before .before .before .before .before .before .before .pre .1 .0 .2))
     -- returns
     (λ c.
     let i = c .before .before .before .before .before .loop .inv in
@@ -93,11 +93,11 @@ walk-spec =
       e .1 .1,
     ))
     -- same-length-7
-    (λ c. search needs)
+    (λ c. c .before .loop .inv .0 .lengths .0 ∙ sym (c .before .before .before .before .before .before .before .before .pre .1 .0 .1))
     -- same-length-8
-    (λ c. search needs)
+    (λ c. c .before .loop .inv .2 .long ∙ sym (c .before .before .before .before .before .before .before .before .pre .1 .1 .1 .long))
     -- same-length-9
-    (λ c. search needs)
+    (λ c. c .before .loop .inv .0 .lengths .1 ∙ sym (c .before .before .before .before .before .before .before .before .pre .1 .0 .2))
     -- returns-3
     (λ c.
     let i = c .before .loop .inv in
