@@ -1,5 +1,5 @@
 # The project's commands. `make` alone lists them.
-.PHONY: help run test prove library second compare bench
+.PHONY: help run test prove library install second compare bench
 SHELL := /bin/bash
 .SHELLFLAGS := -o pipefail -c
 
@@ -7,7 +7,8 @@ help:
 	@echo "make run       proves what is not proved yet, then runs the program on the worked day of README.md and shows the list"
 	@echo "make test      the gate: formatting, proofs, must-fail edits, examples, and every comparison with the second program"
 	@echo "make prove     the proofs alone, from what has changed"
-	@echo "make library   the static library for C: target/staticlib/libexports.a, with include/wuzlevor.h"
+	@echo "make library   the static library for C; says where it is and how to link it"
+	@echo "make install   puts header, archive, program and a pkg-config file under PREFIX (/usr/local)"
 	@echo "make second    builds the second program: second/target/release/second"
 	@echo "make compare   more random cases against the second program: N=n library calls and n/10 jobs, SEED=n for others"
 	@echo "make bench     measures speed: the judge and the program beside two unproved ones and foma, and the judge's stack"
@@ -28,7 +29,15 @@ prove:
 	rt check
 
 library:
-	rt staticlib exports
+	@rt staticlib wuzlevor | grep --line-buffered -E '^rt:|error'
+	@echo "archive: $(CURDIR)/target/staticlib/libwuzlevor.a"
+	@echo "header:  $(CURDIR)/include/wuzlevor.h"
+	@echo "link:    cc -I $(CURDIR)/include YOURS.c $(CURDIR)/target/staticlib/libwuzlevor.a"
+
+PREFIX ?= /usr/local
+install: library
+	@rt check checker | grep --line-buffered -E '^rt:|error'
+	@scripts/install $(PREFIX)
 
 second:
 	cd second && cargo build --offline --release
@@ -37,9 +46,9 @@ SEED ?= 2
 N ?= 200000
 compare:
 	scripts/compare_definitions $(SEED) 400 400
-	rt check known_days checker
+	rt check case_runner checker
 	scripts/compare_answers $(SEED) 100
-	rt staticlib exports
+	rt staticlib wuzlevor
 	scripts/compare_proved $(SEED) $(N) $$(($(N) / 10))
 
 bench:

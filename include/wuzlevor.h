@@ -1,4 +1,4 @@
-/* Wuzlevor, the day checker of an office-door reader line: the C interface of the proved library, libexports.a.
+/* Wuzlevor, the day checker of an office-door reader line: the C interface of the proved library, libwuzlevor.a.
  *
  * Texts. A rule is a text of letters a to z (events), 0 (no word), 1 (the empty word), | (or), & (and), ! (not), * (any number of times) and
  * parentheses; two rules side by side are one after the other. From loosest to tightest: |, &, side by side, ! in front, * behind. A rule's
@@ -12,9 +12,9 @@
  * undefined. Nothing is allocated or kept between calls, and calls with different buffers may run in different threads. The calls have run
  * in threads of 512 KiB of stack; no bound of it is proved.
  *
- * Answers. Every call writes the first elements of `answer`: number, place, found, count, and then values of its own. What follows them
- * in `answer` is not touched. If `answer`, or `nodes` of wuz_read_rule, is shorter than the call asks for, the call does nothing: no
- * buffer changes, `answer` included. Where that could happen, set answer[0] to WUZ_UNANSWERED before the call.
+ * Answers. Every call returns its number, 0 where it accepts, and writes the first elements of `answer`: that number, place, found, count,
+ * and then values of its own. What follows them in `answer` is not touched. If `answer`, or `nodes` of wuz_read_rule, is shorter than the
+ * call asks for, the call returns WUZ_UNANSWERED and writes nothing: no buffer changes, `answer` included.
  *
  * Numbers. 0 is acceptance. On a refusal place, found, count and the call's own values are 0 unless said here, and no buffer but
  * `answer` changes, except the table on 10.
@@ -28,7 +28,7 @@
  *    4  it is no sentence, which is a text formed as above; place: the length of its longest beginning that some sentence also has
  *    5  it has over 64 nodes
  *    6  it has over 7 nodes & and !
- *   then the day: 11; then its lines in turn, and the first bad line is told, in a line 12 before 13; 15 last
+ *   then the day: 11; then its lines in turn, and the first bad line is told, in a line 14, then 12, then 13; 15 last
  *   11  the file is over 2,550 bytes
  *   12  a line is not of the form; place: the line, from 1
  *   13  a second is over 86,399 or below the line before; place: the line
@@ -57,7 +57,7 @@ extern "C" {
 #define WUZ_JOB_ANSWER 5
 #define WUZ_NODES 128
 
-/* No number of an answer. */
+/* Returned by a call that has no room for its answer; no number of the table above. */
 #define WUZ_UNANSWERED UINT64_MAX
 
 /* The most that a day, the table of a judgement, its work count and the text of a job can be. */
@@ -71,13 +71,13 @@ extern "C" {
  * the node itself; what follows is not touched. "Side by side" has the offset at which its right side begins. Kinds: a letter's byte, or
  * 0 empty, 1 epsilon, 2 union, 3 intersection, 4 concatenation, 5 complement, 6 star.
  * Numbers: 0 to 6. */
-void wuz_read_rule(const uint8_t *text, size_t text_len, uint64_t *answer, size_t answer_len, uint64_t *nodes, size_t nodes_len);
+uint64_t wuz_read_rule(const uint8_t *text, size_t text_len, uint64_t *answer, size_t answer_len, uint64_t *nodes, size_t nodes_len);
 
 /* Reads a day file. answer (5): number, place, 0, 0, n: the day has n events.
  * letters, seconds: on acceptance the first n are written, in line order; what follows is not touched.
  * Numbers: 0, 11 to 15. */
-void wuz_read_day(const uint8_t *file, size_t file_len, uint8_t *letters, size_t letters_len, uint32_t *seconds, size_t seconds_len,
-                  uint64_t *answer, size_t answer_len);
+uint64_t wuz_read_day(const uint8_t *file, size_t file_len, uint8_t *letters, size_t letters_len, uint32_t *seconds, size_t seconds_len,
+                      uint64_t *answer, size_t answer_len);
 
 /* Judges every span of a word of n events by a rule. answer (4): number, place, found, count: found spans obey the rule, and the work
  * count is count, at most m * (n + 1) * (n + 2); 10 exactly where it is above `limit`.
@@ -85,15 +85,15 @@ void wuz_read_day(const uint8_t *file, size_t file_len, uint8_t *letters, size_t
  * of four numbers for the whole rule, and then one for the part that each & or ! heads, in rising byte offset. In row i of a block, span
  * (i, j) is bit j % 64 (the lowest is bit 0) of number j / 64: 1 exactly if the span obeys. All other bits are 0.
  * Numbers: 0 to 10. */
-void wuz_judge(const uint8_t *rule, size_t rule_len, const uint8_t *word, size_t word_len, uint64_t limit, uint64_t *table,
-               size_t table_len, uint64_t *answer, size_t answer_len);
+uint64_t wuz_judge(const uint8_t *rule, size_t rule_len, const uint8_t *word, size_t word_len, uint64_t limit, uint64_t *table,
+                   size_t table_len, uint64_t *answer, size_t answer_len);
 
 /* Runs a job. answer (5): number, place, found, count, n: the text has n bytes.
  * out: on acceptance the first n bytes are written: a line H, n, m, k, found, count (here n is the number of events), and for each span
  * that obeys a line S, i, j, by rising i and then rising j; fields are decimal, with a tab before each and a newline after the line.
  * What follows is not touched.
  * Numbers: 0 to 6, 11 to 16. */
-void wuz_run_job(const uint8_t *job, size_t job_len, uint8_t *out, size_t out_len, uint64_t *answer, size_t answer_len);
+uint64_t wuz_run_job(const uint8_t *job, size_t job_len, uint8_t *out, size_t out_len, uint64_t *answer, size_t answer_len);
 
 #ifdef __cplusplus
 }

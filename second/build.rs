@@ -15,8 +15,8 @@ fn main() {
     let package = env::var("CARGO_MANIFEST_DIR").expect("cargo names the package's directory");
     let directory = env::var("WUZLEVOR_LIB").unwrap_or_else(|_| DEFAULT_DIRECTORY.to_string());
     let directory = Path::new(&package).join(directory);
-    let archive = directory.join("libexports.a");
+    let archive = directory.join("libwuzlevor.a");
     println!("cargo:rerun-if-changed={}", archive.display());
     println!("cargo:rustc-link-search=native={}", directory.display());
-    println!("cargo:rustc-link-lib=static=exports");
+    println!("cargo:rustc-link-lib=static=wuzlevor");
 }

@@ -14,7 +14,7 @@ extern "C" {
         table_len: usize,
         answer: *mut u64,
         answer_len: usize,
-    );
+    ) -> u64;
 }
 
 /// The most work that any judgement can count: what the program lends for the largest job.
@@ -39,7 +39,7 @@ pub fn judge(rule: &[u8], word: &[u8], table: &mut [Row]) -> Told {
             numbers.len(),
             told.as_mut_ptr(),
             told.len(),
-        )
+        );
     }
     told
 }

@@ -1,5 +1,5 @@
-//! The second program: an independent reference implementation of document 01,
-//! written from documents 01 and 004 alone, to be compared with the program that is proved.
+//! The second program: an independent reference implementation of document 01, which shares no code
+//! with the program that is proved, to be compared with it.
 
 #![deny(unsafe_code)]
 

@@ -29,7 +29,10 @@ fn main() -> io::Result<ExitCode> {
 /// Does what the arguments ask for; none if they are not as the usage says.
 fn run_command(arguments: &[&str]) -> Option<io::Result<ExitCode>> {
     let done = match *arguments {
-        [] => run_job(),
+        [] => {
+            run_job();
+            Ok(())
+        }
         ["cases", seed, count, rule_bytes, word_length] => {
             let (bytes, length) = (number(rule_bytes)?, number(word_length)?);
             let line = |random: &mut Random| cases::case_line(random, bytes, length);
@@ -56,12 +59,20 @@ fn number(argument: &str) -> Option<usize> {
     argument.parse().ok()
 }
 
-/// Answers one job from standard input on standard output.
-fn run_job() -> io::Result<()> {
-    // A file of its own has no buffer, so what follows the job really stays unread.
+/// Answers one job from standard input on standard output; nothing where a read fails.
+fn run_job() {
+    if let Ok(job) = read_job() {
+        // Where a write fails there is nobody to be told.
+        let _ = io::stdout().write_all(job::output(&job).as_bytes());
+    }
+}
+
+/// Takes one job from standard input.
+fn read_job() -> io::Result<Vec<u8>> {
+    // A file of its own has no buffer, so what follows the job really stays unread; and it does not
+    // hide that a descriptor is not for reading.
     let input = File::from(io::stdin().as_fd().try_clone_to_owned()?);
-    let job = job::read(input)?;
-    io::stdout().write_all(job::output(&job).as_bytes())
+    job::read(input)
 }
 
 /// Prints so many random lines.

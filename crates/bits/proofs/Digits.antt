@@ -12,7 +12,8 @@ use lib.Count.{trailingZeros, trailing-of-zero, under}
 use lib.Dec.{eqb, ltb, lit≤}
 use lib.Pow.{pow-pos, pow-lt, pow-add, shl-shr, shr-shr, shr-lt, high, ones-lt, ones-split}
 use borrow.Author.Tests.{eq-eqb, ne-eqb, ltb-true, ltb-false, lt-ltb, le-ltb, eqb-true, eqb-false}
-use Rattle.bits.specs.Bit.{hasBit, First}
+use Rattle.bits.specs.Bit.{hasBit}
+use Rattle.bits.specs.Runs.{First}
 
 -- ---- two numbers: which is below, or whether they are the same
 

@@ -9,7 +9,8 @@ use native.Mathlib.Numerals.{add-one}
 use lib.Count.{ones}
 use lib.ListN.{length, length-set, getD, take, replicate}
 use lib.Seq.{getD-set-same, getD-set-other, take-suc}
-use Rattle.bits.specs.Bit.{hasBit, bitAt, onesOf, joined, Put, Merged, Adds}
+use Rattle.bits.specs.Bit.{hasBit, bitAt, onesOf}
+use Rattle.bits.specs.Runs.{joined, Put, Merged, Adds}
 use Rattle.bits.proofs.Digits.{same-or-not, has-or, power-has, power-lacks, zero-has}
 
 -- ---- ones

@@ -10,7 +10,8 @@ use lib.Dec.{lit<}
 use lib.ListN.{length, getD, List·getD-append}
 use lib.Seq.{getD-append-add}
 use borrow.Author.Tests.{eqb-true, eqb-false}
-use Rattle.bits.specs.Bit.{hasBit, bitAt, onesOf, indicator, tallyBelow, packed, packedRun}
+use Rattle.bits.specs.Bit.{hasBit, bitAt, onesOf}
+use Rattle.bits.specs.Runs.{indicator, tallyBelow, packed, packedRun, Small}
 use Rattle.bits.proofs.Tally.{tally-same, tally-none, tally-add}
 
 indicator-lt : (b : Bool) → indicator b < 2
@@ -117,10 +118,6 @@ bit-behind a b p =
     let q : (64 * length a + p) / 64 ≡ length a + p / 64 = omega arith in
     let r : (64 * length a + p) % 64 ≡ p % 64 = omega arith in
     ap₂ (λ m n. hasBit m (getD (a ++ b) n 0)) r q ∙ ap (hasBit (p % 64)) (getD-append-add a b (p / 64) 0)
-
--- ---- runs of 64-bit numbers
-abbrev pub Small : List ℕ → Type 0
-Small a = (i : ℕ) → getD a i 0 < 2 ^ 64
 
 pub run-small : (c : ℕ) (f : ℕ → Bool) → Small (packedRun c f)
 unfolding packedRun

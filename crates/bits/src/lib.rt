@@ -3,7 +3,8 @@ ghost use mathlib.Core.Path.{_≡_};
 ghost use mathlib.Core.List.{_++_};
 ghost use Prim.Native.Nat.{_*_, _/_, _%_, _^_, _<_, _≤_};
 ghost use lib.ListN.{length, take, drop, replicate};
-ghost use Rattle.bits.specs.Bit.{hasBit, bitAt, onesOf, joined, Put, First, Merged};
+ghost use Rattle.bits.specs.Bit.{hasBit, bitAt, onesOf};
+ghost use Rattle.bits.specs.Runs.{joined, Put, First, Merged};
 
 // Whether bit b of x is set.
 fn has(x: u64, b: usize) -> bool

@@ -10,8 +10,9 @@ use lib.ListN.{length, drop}
 use borrow.Author.Tests.{ltb-true, ltb-false, lt-ltb, le-ltb}
 use Rattle.event.proofs.Tests.{either, neither, choose}
 use Rattle.day.specs.DayFile.{lastSecond, DayEvent, LineAt, Lines, done, more, secondAfter}
-use Rattle.day.specs.DayLines.{DayVerdict, malformed, wrongSecond, manyLines, events, front, judged, lineOf, dayLines}
-use Rattle.day.specs.DayAnswer.{DayAnswer, refusal, answered, dayAnswer}
+use Rattle.day.specs.DayLines.{LinesResult, malformed, wrongSecond, manyLines, events, front, judged, lineOf, dayLines}
+use Rattle.day.specs.DayAnswer.{DayAnswer, refusal}
+use Rattle.day.specs.DayComputed.{answered, dayAnswer}
 use Rattle.day.specs.DayMeaning.{DayMeaning, long-file, many-lines, malformed-line, wrong-second, short-buffer, accepted, Whole}
 use Rattle.day.specs.declared.line.LineRead.{LineRead}
 use Rattle.day.specs.declared.line.LineRead.the-variants.{Formed, Malformed}
@@ -52,7 +53,7 @@ record Overflows (left y : ℕ) (s : List ℕ) : Type 0 where
   begun : 1 ≤ length rest
   all : length l ≡ left
 
-abbrev Says : ℕ → ℕ → List ℕ → DayVerdict → Type 0
+abbrev Says : ℕ → ℕ → List ℕ → LinesResult → Type 0
 Says left y s (malformed p) = Stops NoLine left y s p
 Says left y s (wrongSecond p) = Stops BadSecond left y s p
 Says left y s manyLines = Overflows left y s
@@ -72,7 +73,7 @@ module _ (left y : ℕ) (s mid : List ℕ) (e : DayEvent) (h : LineAt s e mid) (
         why = b .why;
       }
 
-  says-front : (d : DayVerdict) → Says left (e .second) mid d → Says (suc left) y s (front e d)
+  says-front : (d : LinesResult) → Says left (e .second) mid d → Says (suc left) y s (front e d)
   says-front (malformed p) b = stops-later NoLine p b
   says-front (wrongSecond p) b = stops-later BadSecond p b
   says-front manyLines b =
@@ -106,7 +107,7 @@ says (suc left) y (b ∷ s) h = says-line left y (b ∷ s) (omega arith) (omega 
 pub good-lines : (s : List ℕ) (l : List DayEvent) → dayLines 255 0 s ≡ events l → Lines 0 s l []
 good-lines s l e = subst (Says 255 0 s) e (says 255 0 s (omega arith)) .0
 
-means : (s ls ss : List ℕ) → length s ≤ 2550 → (d : DayVerdict) → Says 255 0 s d → DayMeaning s ls ss (answered d ls ss)
+means : (s ls ss : List ℕ) → length s ≤ 2550 → (d : LinesResult) → Says 255 0 s d → DayMeaning s ls ss (answered d ls ss)
 means s ls ss h (malformed p) b =
     let e : suc (length (b .l)) ≡ p = omega (arith, b .place) in
     subst (λ (q : ℕ). DayMeaning s ls ss (refusal 12 q ls ss)) e
@@ -132,11 +133,11 @@ answer-means s ls ss =
 
 -- ---- no other answer says so
 -- good lines in front
-abbrev prefixed : List DayEvent → DayVerdict → DayVerdict
+abbrev prefixed : List DayEvent → LinesResult → LinesResult
 prefixed [] d = d
 prefixed (e ∷ l) d = front e (prefixed l d)
 
-prefixed-refusal : (d : DayVerdict) → ((e : DayEvent) → front e d ≡ d) → (l : List DayEvent) → prefixed l d ≡ d
+prefixed-refusal : (d : LinesResult) → ((e : DayEvent) → front e d ≡ d) → (l : List DayEvent) → prefixed l d ≡ d
 prefixed-refusal d h [] = refl
 prefixed-refusal d h (e ∷ l) = ap (front e) (prefixed-refusal d h l) ∙ h e
 
@@ -180,9 +181,9 @@ pub whole-lines : {s : List ℕ} {l : List DayEvent} → Lines 0 s l [] → leng
 whole-lines {s} {l} g h = run-all g h ∙ ap (prefixed l) (turn-end (255 - length l) (secondAfter 0 l)) ∙ prefixed-events l
 
 -- ---- the answer of a file that fits, by what its lines come to
-pub by-lines : (s ls ss : List ℕ) (d : DayVerdict) → length s ≤ 2550 → dayLines 255 0 s ≡ d → answered d ls ss ≡ dayAnswer s ls ss
+pub by-lines : (s ls ss : List ℕ) (d : LinesResult) → length s ≤ 2550 → dayLines 255 0 s ≡ d → answered d ls ss ≡ dayAnswer s ls ss
 unfolding dayAnswer
-by-lines s ls ss d h e = ap (λ (x : DayVerdict). answered x ls ss) (sym e) ∙ simp (le-ltb 2550 (length s) h)
+by-lines s ls ss d h e = ap (λ (x : LinesResult). answered x ls ss) (sym e) ∙ simp (le-ltb 2550 (length s) h)
 
 pub shorter : (a b n : ℕ) → (a < n) ⊎ (b < n) → (ltb a n || ltb b n) ≡ true
 shorter a b n (inl h) = simp (lt-ltb a n h)

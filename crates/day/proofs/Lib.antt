@@ -4,4 +4,5 @@ mod LineLaws
 mod LineForm
 mod Turns
 pub mod Answered
+pub mod Rows
 mod Results

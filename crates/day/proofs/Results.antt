@@ -8,11 +8,13 @@ use lib.ListN.{length, drop, length-map}
 use lib.Seq.{sets, sets-eq}
 use borrow.Author.Tests.{lt-ltb, le-ltb}
 use Rattle.day.specs.DayFile.{DayEvent, letterOf, secondOf, Lines, done, more}
-use Rattle.day.specs.DayLines.{DayVerdict, malformed, wrongSecond, manyLines, events, dayLines, checked, withLine, eventsOf}
-use Rattle.day.specs.DayAnswer.{DayAnswer, values, answered, dayAnswer, dayValues}
+use Rattle.day.specs.DayLines.{LinesResult, malformed, wrongSecond, manyLines, events, dayLines, checked, withLine, eventsOf}
+use Rattle.day.specs.DayAnswer.{DayAnswer, values, dayValues}
+use Rattle.day.specs.DayComputed.{answered, dayAnswer}
 use Rattle.day.specs.DayMeaning.{DayMeaning}
-use Rattle.day.specs.declared.Outcome.{Outcome}
-use Rattle.day.specs.declared.Outcome.the-variants.{Accepted, LongFile, Malformed, WrongSecond, ManyLines, ShortBuffer}
+use Rattle.day.specs.declared.Outcome.the-variants.{Accepted, Refused}
+use Rattle.day.specs.declared.Refusal.{Refusal}
+use Rattle.day.specs.declared.Refusal.the-variants.{LongFile, Malformed, WrongSecond, ManyLines, ShortBuffer}
 use Rattle.day.specs.declared.passes.Checked.{Checked}
 use Rattle.day.specs.declared.passes.Checked.the-variants.{Good, Bad}
 use Rattle.day.proofs.LineForm.{line-found}
@@ -25,23 +27,23 @@ Answers s ls ss a = (a ≡ dayAnswer s ls ss) × DayMeaning s ls ss a
 both : (s ls ss : List ℕ) (a : DayAnswer) → a ≡ dayAnswer s ls ss → Answers s ls ss a
 both s ls ss a e = (e, subst (DayMeaning s ls ss) (sym e) (answer-means s ls ss))
 
-pub too-long : (s ls ss : List ℕ) → 2550 < length s → Answers s ls ss (dayValues LongFile ls ss)
+pub too-long : (s ls ss : List ℕ) → 2550 < length s → Answers s ls ss (dayValues (Refused LongFile) ls ss)
 unfolding dayAnswer
-too-long s ls ss h = both s ls ss (dayValues LongFile ls ss) (simp (lt-ltb 2550 (length s) h))
+too-long s ls ss h = both s ls ss (dayValues (Refused LongFile) ls ss) (simp (lt-ltb 2550 (length s) h))
 
-apart : (o : Outcome) (n : ℕ) → Bad o ≡ Good n → ⊥
+apart : (o : Refusal) (n : ℕ) → Bad o ≡ Good n → ⊥
 apart o n e = let z : _≡_ {A = ℕ} 0 1 = cc in omega arith
 
-refused : (o : Outcome) (ls ss : List ℕ) (d : DayVerdict) → Bad o ≡ checked 0 d → dayValues o ls ss ≡ answered d ls ss
-refused o ls ss (malformed p) e = let q : o ≡ Malformed p = cc in ap (λ (x : Outcome). dayValues x ls ss) q
-refused o ls ss (wrongSecond p) e = let q : o ≡ WrongSecond p = cc in ap (λ (x : Outcome). dayValues x ls ss) q
-refused o ls ss manyLines e = let q : o ≡ ManyLines = cc in ap (λ (x : Outcome). dayValues x ls ss) q
+refused : (o : Refusal) (ls ss : List ℕ) (d : LinesResult) → Bad o ≡ checked 0 d → dayValues (Refused o) ls ss ≡ answered d ls ss
+refused o ls ss (malformed p) e = let q : o ≡ Malformed p = cc in ap (λ (x : Refusal). dayValues (Refused x) ls ss) q
+refused o ls ss (wrongSecond p) e = let q : o ≡ WrongSecond p = cc in ap (λ (x : Refusal). dayValues (Refused x) ls ss) q
+refused o ls ss manyLines e = let q : o ≡ ManyLines = cc in ap (λ (x : Refusal). dayValues (Refused x) ls ss) q
 refused o ls ss (events l) e = absurd (apart o _ e)
 
-pub bad-line : (s ls ss : List ℕ) (r : Checked) (o : Outcome) → length s ≤ 2550 → r ≡ checked 0 (dayLines 255 0 s) → r ≡ Bad o
-    → Answers s ls ss (dayValues o ls ss)
+pub bad-line : (s ls ss : List ℕ) (r : Checked) (o : Refusal) → length s ≤ 2550 → r ≡ checked 0 (dayLines 255 0 s) → r ≡ Bad o
+    → Answers s ls ss (dayValues (Refused o) ls ss)
 bad-line s ls ss r o h e g =
-    both s ls ss (dayValues o ls ss) (refused o ls ss (dayLines 255 0 s) (sym g ∙ e) ∙ by-lines s ls ss (dayLines 255 0 s) h refl)
+    both s ls ss (dayValues (Refused o) ls ss) (refused o ls ss (dayLines 255 0 s) (sym g ∙ e) ∙ by-lines s ls ss (dayLines 255 0 s) h refl)
 
 -- n good lines
 record Day-of (s : List ℕ) (n : ℕ) : Type 0 where
@@ -49,7 +51,7 @@ record Day-of (s : List ℕ) (n : ℕ) : Type 0 where
   lines : dayLines 255 0 s ≡ events l
   many : n ≡ length l
 
-day-of : (s : List ℕ) (n : ℕ) (d : DayVerdict) → dayLines 255 0 s ≡ d → Good n ≡ checked 0 d → Day-of s n
+day-of : (s : List ℕ) (n : ℕ) (d : LinesResult) → dayLines 255 0 s ≡ d → Good n ≡ checked 0 d → Day-of s n
 day-of s n (malformed p) q e = absurd (apart _ _ (sym e))
 day-of s n (wrongSecond p) q e = absurd (apart _ _ (sym e))
 day-of s n manyLines q e = absurd (apart _ _ (sym e))
@@ -68,11 +70,11 @@ module _ (s : List ℕ) (r : Checked) (n : ℕ) (e : r ≡ checked 0 (dayLines 2
   day : Day-of s n
   day = day-of s n (dayLines 255 0 s) refl (sym g ∙ e)
 
-  pub short : (ls ss : List ℕ) → length s ≤ 2550 → (length ls < n) ⊎ (length ss < n) → Answers s ls ss (dayValues ShortBuffer ls ss)
+  pub short : (ls ss : List ℕ) → length s ≤ 2550 → (length ls < n) ⊎ (length ss < n) → Answers s ls ss (dayValues (Refused ShortBuffer) ls ss)
   short ls ss h b =
       let t = shorter (length ls) (length ss) (length (day .l)) (subst (λ (k : ℕ). (length ls < k) ⊎ (length ss < k)) (day .many) b) in
-      let a : answered (events (day .l)) ls ss ≡ dayValues ShortBuffer ls ss = simp t in
-      both s ls ss (dayValues ShortBuffer ls ss) (sym a ∙ by-lines s ls ss (events (day .l)) h (day .lines))
+      let a : answered (events (day .l)) ls ss ≡ dayValues (Refused ShortBuffer) ls ss = simp t in
+      both s ls ss (dayValues (Refused ShortBuffer) ls ss) (sym a ∙ by-lines s ls ss (events (day .l)) h (day .lines))
 
   events-are : eventsOf n s ≡ day .l
   events-are = ap (λ (k : ℕ). eventsOf k s) (day .many) ∙ met (good-lines s (day .l) (day .lines))

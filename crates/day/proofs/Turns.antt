@@ -11,13 +11,13 @@ use lib.Seq.{drop-drop, sets}
 use borrow.Author.Tests.{lt-ltb, le-ltb}
 use Rattle.event.proofs.Tails.{tail, tail-is}
 use Rattle.day.specs.DayFile.{lastSecond, DayEvent, letterOf, secondOf}
-use Rattle.day.specs.DayLines.{DayVerdict, malformed, wrongSecond, manyLines, events, front, judged, lineOf, dayLines}
+use Rattle.day.specs.DayLines.{LinesResult, malformed, wrongSecond, manyLines, events, front, judged, lineOf, dayLines}
 use Rattle.day.specs.DayLines.{checked, withLine, eventsOf}
 use Rattle.day.specs.declared.line.LineRead.{LineRead}
 use Rattle.day.specs.declared.line.LineRead.the-variants.{Formed}
 use Rattle.day.specs.declared.line.LineRead.the-variants as line
 use Rattle.day.specs.declared.passes.Checked.the-variants.{Good, Bad}
-use Rattle.day.specs.declared.Outcome.the-variants.{Malformed, WrongSecond, ManyLines}
+use Rattle.day.specs.declared.Refusal.the-variants.{Malformed, WrongSecond, ManyLines}
 use Rattle.day.proofs.LineForm.{line-within}
 
 -- what was read of the tail is the line there
@@ -65,7 +65,7 @@ module _ (n y : ℕ) (s : List ℕ) (few : n < 255) (begun : 1 ≤ length s) whe
     turn-good h g = turned ∙ simp (le-ltb lastSecond x h, le-ltb x y g)
 
 -- a good line counts as one more
-pub one-more : (n : ℕ) (e : DayEvent) (d : DayVerdict) → checked n (front e d) ≡ checked (n + 1) d
+pub one-more : (n : ℕ) (e : DayEvent) (d : LinesResult) → checked n (front e d) ≡ checked (n + 1) d
 one-more n e (malformed p) = refl
 one-more n e (wrongSecond p) = refl
 one-more n e manyLines = refl

@@ -1,13 +1,14 @@
--- What the day reader answers of a file, and what it leaves in the two buffers, in the values of document 01. Assumes nothing.
+-- The values of the day reader's answers, with what stands in the two buffers, by document 01. Assumes nothing.
 use Prim.Native.Nat.{ℕ}
-use mathlib.Core.Bool.{cond, _||_}
 use mathlib.Core.List.{List, _++_, map}
-use lib.Dec.{ltb}
 use lib.ListN.{length, drop}
 use Rattle.day.specs.DayFile.{DayEvent, letterOf, secondOf}
-use Rattle.day.specs.DayLines.{DayVerdict, malformed, wrongSecond, manyLines, events, dayLines}
+use Rattle.verdict.specs.Verdicts as verdict
+use Rattle.verdict.specs.declared.Verdict.{Verdict}
 use Rattle.day.specs.declared.Outcome.{Outcome}
 use Rattle.day.specs.declared.Outcome.the-variants as outcome
+use Rattle.day.specs.declared.Refusal.{Refusal}
+use Rattle.day.specs.declared.Refusal.the-variants as why
 
 -- 01: "An answer carries number (0 if accepted), place, found and count; .. the day reader's also n", with both buffers at exit
 pub record DayAnswer : Type 0 where
@@ -31,22 +32,29 @@ refusal number place ls ss = values number place 0 ls ss
 abbrev pub acceptance : List DayEvent → List ℕ → List ℕ → DayAnswer
 acceptance l ls ss = values 0 0 (length l) (map letterOf l ++ drop (length l) ls) (map secondOf l ++ drop (length l) ss)
 
--- 01, number 15: "a buffer shorter than n, after all lines"; the others by their lines
-abbrev pub answered : DayVerdict → List ℕ → List ℕ → DayAnswer
-answered (malformed p) ls ss = refusal 12 p ls ss
-answered (wrongSecond p) ls ss = refusal 13 p ls ss
-answered manyLines ls ss = refusal 14 256 ls ss
-answered (events l) ls ss = cond (ltb (length ls) (length l) || ltb (length ss) (length l)) (refusal 15 0 ls ss) (acceptance l ls ss)
+-- 01: number and place of each refusal of the row "Day file"
+abbrev pub refusalVerdict : Refusal → Verdict
+refusalVerdict why.LongFile = verdict.refused 11 0
+refusalVerdict (why.Malformed p) = verdict.refused 12 p
+refusalVerdict (why.WrongSecond p) = verdict.refused 13 p
+refusalVerdict why.ManyLines = verdict.refused 14 256
+refusalVerdict why.ShortBuffer = verdict.refused 15 0
 
--- 01, number 11: "over 2,550 bytes". Of a file and the two buffers at entry.
-unfoldable pub dayAnswer : List ℕ → List ℕ → List ℕ → DayAnswer
-dayAnswer s ls ss = cond (ltb 2550 (length s)) (refusal 11 0 ls ss) (answered (dayLines 255 0 s) ls ss)
+-- number, place, found and count of what the code answers
+abbrev pub outcomeVerdict : Outcome → Verdict
+outcomeVerdict (outcome.Accepted n) = verdict.accepted 0 0
+outcomeVerdict (outcome.Refused r) = refusalVerdict r
 
--- the same values of an outcome of the code and the two buffers at exit
+-- a verdict, with n and the two buffers
+abbrev pub told : Verdict → ℕ → List ℕ → List ℕ → DayAnswer
+told v n ls ss =
+    record { number = v .number; place = v .place; found = v .found; count = v .count; n = n; letters = ls; seconds = ss }
+
+-- n of what the code answers
+abbrev pub eventCount : Outcome → ℕ
+eventCount (outcome.Accepted n) = n
+eventCount (outcome.Refused r) = 0
+
+-- the values of what the code answers, with the two buffers at exit
 abbrev pub dayValues : Outcome → List ℕ → List ℕ → DayAnswer
-dayValues (outcome.Accepted n) ls ss = values 0 0 n ls ss
-dayValues outcome.LongFile ls ss = values 11 0 0 ls ss
-dayValues (outcome.Malformed p) ls ss = values 12 p 0 ls ss
-dayValues (outcome.WrongSecond p) ls ss = values 13 p 0 ls ss
-dayValues outcome.ManyLines ls ss = values 14 256 0 ls ss
-dayValues outcome.ShortBuffer ls ss = values 15 0 0 ls ss
+dayValues o ls ss = told (outcomeVerdict o) (eventCount o) ls ss

@@ -2,5 +2,6 @@
 pub mod DayFile
 pub mod DayAnswer
 pub mod DayMeaning
+pub mod DayComputed
 -- The lines by computation.
 pub mod DayLines

@@ -1,5 +1,5 @@
 // The two passes over a day file: the first judges its lines, the second stores their events.
-use crate::Outcome;
+use crate::Refusal;
 use crate::line::LineRead;
 use crate::line::read_line;
 ghost use mathlib.Core.Path.{_≡_};
@@ -18,7 +18,7 @@ const MOST_LINES: usize = 255;
 // What the first pass finds: the number of good lines, or the first refusal.
 pub enum Checked {
     Good(usize),
-    Bad(Outcome),
+    Bad(Refusal),
 }
 
 // Judges the lines one after another.
@@ -30,15 +30,15 @@ pub fn check_lines(file: &[u8]) -> Checked
     let mut last = 0;
     while at < file.len() {
         if n == MOST_LINES {
-            return Checked::Bad(Outcome::ManyLines);
+            return Checked::Bad(Refusal::ManyLines);
         }
         match read_line(&file[at..]) {
             LineRead::Malformed => {
-                return Checked::Bad(Outcome::Malformed(n + 1));
+                return Checked::Bad(Refusal::Malformed(n + 1));
             }
             LineRead::Formed(second, letter, size) => {
                 if LAST_SECOND < second || second < last {
-                    return Checked::Bad(Outcome::WrongSecond(n + 1));
+                    return Checked::Bad(Refusal::WrongSecond(n + 1));
                 }
                 last = second;
                 at += size;

@@ -4,16 +4,18 @@ use native.Mathlib.Omega.{arith}
 use mathlib.Core.Path.{_≡_, ap, ap₂, subst, _∙_}
 use mathlib.Core.List.{List}
 use lib.ListN.{length}
-use Rattle.job.specs.JobAnswer.{JobAnswer, acceptance, jobAnswer}
+use Rattle.rule.proofs.Rows.{refused-number}
+use Rattle.job.specs.JobAnswer.{JobAnswer, acceptance}
+use Rattle.job.specs.JobComputed.{jobAnswer}
 use Rattle.job.specs.JobMeaning.{JobMeaning, no-rule-line, rule-refused, day-refused, short-buffer, accepted}
 use Rattle.job.proofs.Answered.{judged-short, at-refusal, at-short, at-text}
 use Rattle.job.specs.FirstBlock.{text}
 use Rattle.job.proofs.Listed.{one-found, one-count, one-text}
-use Rattle.job.proofs.Rows.{result-none, result-rule, result-day, refusal-number}
+use Rattle.job.proofs.Rows.{result-none, result-rule, result-day}
 
 pub answer-is : {s old : List ℕ} {a : JobAnswer} → JobMeaning s old a → a ≡ jobAnswer s old
 answer-is {s} {old} (no-rule-line h) = at-refusal s old (result-none h) (λ e. omega arith)
-answer-is {s} {old} (rule-refused d m) = at-refusal s old (result-rule d m) (refusal-number m)
+answer-is {s} {old} (rule-refused d m) = at-refusal s old (result-rule d m) (refused-number m)
 answer-is {s} {old} (day-refused d p m) = at-refusal s old (result-day d p m) (λ e. omega (arith, m .refused))
 answer-is {s} {old} (short-buffer {t = t} {w = w} {text = x} j l h) =
     at-short s old j (subst (λ (y : List ℕ). length old < length y) (one-text w t (judged-short j) l) h)

@@ -14,8 +14,9 @@ use Rattle.event.specs.Leading.{leading}
 use Rattle.event.proofs.LeadingLaws.{leading-found}
 use Rattle.event.proofs.Tails.{tail, tail-is}
 use Rattle.event.proofs.Tests.{T-of, of-T, and-split}
-use Rattle.rule.specs.RuleAnswer.{ruleAnswer}
-use Rattle.job.specs.JobAnswer.{notNewline, ruleLength, isJob, ruleOf, dayOf, afterRule, jobResult, refusal, written, jobAnswer}
+use Rattle.rule.specs.RuleComputed.{ruleAnswer}
+use Rattle.job.specs.JobAnswer.{refusal}
+use Rattle.job.specs.JobComputed.{notNewline, ruleLength, isJob, ruleOf, dayOf, afterRule, jobResult, written, jobAnswer}
 
 -- where the first line ends; the length where it is not `R`, tab, bytes up to a newline
 abbrev pub lineEnd : List ℕ → ℕ

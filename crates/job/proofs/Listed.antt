@@ -9,8 +9,10 @@ use Rattle.event.proofs.Tests.{T-of, of-T}
 use Rattle.regex.specs.Tree.{Tree, size, specials}
 use Rattle.work.specs.Count.{fullCount}
 use Rattle.work.specs.Span.{Obeys}
-use Rattle.work.specs.Spans.{Spans, obeying}
-use Rattle.work.specs.Table.{obeys, block, blocks, blockLength, specialParts, table, found}
+use Rattle.work.specs.Spans.{Spans}
+use Rattle.work.specs.SpansComputed.{obeying}
+use Rattle.work.specs.Table.{blockLength}
+use Rattle.work.specs.TableComputed.{obeys, block, blocks, specialParts, table, found}
 use Rattle.work.specs.Walk.{Collection}
 use Rattle.work.proofs.Found.{found-listed}
 use Rattle.work.proofs.Listed.{listed, listed-order}

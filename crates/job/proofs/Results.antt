@@ -14,58 +14,38 @@ use Rattle.decimal.proofs.NumeralLaws.{decimal-few, decimal-three, decimal-leng
 use Rattle.event.specs.Event.{Word}
 use Rattle.regex.specs.Tree.{Tree, size, specials}
 use Rattle.regex.specs.Accept.{accepts}
-use Rattle.rule.specs.RuleAnswer.{RuleAnswer}
-use Rattle.rule.specs.RuleMeaning.{RuleMeaning, empty-text, long-text, foreign-byte, no-sentence, many-nodes, many-specials}
-use Rattle.rule.specs.RuleMeaning as rule-meaning
-use Rattle.day.specs.DayAnswer.{DayAnswer}
-use Rattle.day.specs.DayMeaning.{DayMeaning, long-file, many-lines, malformed-line, wrong-second}
-use Rattle.day.specs.DayMeaning as day-meaning
+use Rattle.rule.proofs.Rows as rule-rows
+use Rattle.day.proofs.Rows as day-rows
 use Rattle.work.specs.Count.{fullCount}
-use Rattle.work.specs.Spans.{Spans, listIf, fromStart, fromStarts, obeying}
-use Rattle.work.specs.Table.{found}
+use Rattle.work.specs.Spans.{Spans}
+use Rattle.work.specs.SpansComputed.{listIf, fromStart, fromStarts, obeying}
+use Rattle.work.specs.TableComputed.{found}
 use Rattle.work.proofs.Found.{found-listed}
 use Rattle.work.proofs.Listed.{listed}
 use Rattle.listing.specs.Lines.{fields, line, spanLine, spanLines, headLine, refusalLine}
 use Rattle.job.specs.declared.Answer.{Answer}
-use Rattle.job.specs.JobAnswer.{refused, limitOf, JobAnswer, jobAnswer, jobValues, jobResult, jobText}
-use Rattle.judge.specs.JudgeMeaning.{Passed}
+use Rattle.job.specs.JobAnswer.{JobAnswer, jobValues}
+use Rattle.job.specs.JobComputed.{refused, limitOf, jobAnswer, jobResult, jobText}
+use Rattle.rule.specs.RuleMeaning.{Passed}
 use Rattle.job.specs.JobMeaning.{Judged, JobMeaning, no-rule-line, rule-refused, day-refused, short-buffer, accepted}
 use Rattle.job.proofs.Answered.{answer-means, judged-short, at-refusal, at-text}
 use Rattle.job.specs.FirstBlock.{heading, text}
 use Rattle.job.proofs.Listed.{text-obeying}
-use Rattle.job.proofs.Rows.{limit-enough, result-none, result-rule, result-day, result-judged, refusal-number}
+use Rattle.job.proofs.Rows.{limit-enough, result-none, result-rule, result-day, result-judged}
 use Rattle.job.proofs.Rows.{Comes, no-line, at-rule, at-day, at-judge, comes}
 
 -- ---- the numbers of a job
--- 1 to 6 of a refused rule, 11 to 15 of a refused day
-rule-numbers : {s : List ℕ} {a : RuleAnswer} → RuleMeaning s a → a .number ≤ 6
-rule-numbers (empty-text h) = omega arith
-rule-numbers (long-text h) = omega arith
-rule-numbers (foreign-byte f h l b) = omega arith
-rule-numbers (no-sentence l h g) = omega arith
-rule-numbers (many-nodes l r h) = omega arith
-rule-numbers (many-specials l r h g) = omega arith
-rule-numbers (rule-meaning.accepted l r h g) = omega arith
-
-day-numbers : {file ls ss : List ℕ} {a : DayAnswer} → DayMeaning file ls ss a → 1 ≤ a .number → (11 ≤ a .number) × (a .number ≤ 15)
-day-numbers (long-file h) z = (omega arith, omega arith)
-day-numbers (many-lines u h) z = (omega arith, omega arith)
-day-numbers (malformed-line u h f) z = (omega arith, omega arith)
-day-numbers (wrong-second u h l g) z = (omega arith, omega arith)
-day-numbers (day-meaning.short-buffer w h) z = (omega arith, omega arith)
-day-numbers (day-meaning.accepted w h g) z = absurd (omega arith)
-
--- the numbers between the rule text's and the day file's rows are the judge's own, 7, 8, 9 and 10
-between : {s old : List ℕ} {a : JobAnswer} → JobMeaning s old a → 7 ≤ a .number → 11 ≤ a .number
-between (no-rule-line h) z = omega arith
-between (rule-refused d m) z = absurd (omega (arith, rule-numbers m))
-between (day-refused d p m) z = day-numbers (m .means) (m .refused) .0
-between (short-buffer j l h) z = omega arith
-between (accepted j l h) z = absurd (omega arith)
+-- those of the readers' rows are none of the judge's own, 7, 8, 9 and 10
+apart : {s old : List ℕ} {a : JobAnswer} → JobMeaning s old a → 7 ≤ a .number → a .number ≤ 10 → ⊥
+apart (no-rule-line h) z l = omega arith
+apart (rule-refused d m) z l = rule-rows.row-apart m z l
+apart (day-refused d p m) z l = day-rows.row-apart (m .means) z l
+apart (short-buffer j t h) z l = omega arith
+apart (accepted j t h) z l = omega arith
 
 -- 7, 8, 9 and 10 never come from a job
 pub never-judge : (s old : List ℕ) → 7 ≤ jobAnswer s old .number → jobAnswer s old .number ≤ 10 → ⊥
-never-judge s old h l = let b = between (answer-means s old) h in omega arith
+never-judge s old h l = apart (answer-means s old) h l
 
 -- 10 never comes, since the limit is never below the work
 pub never-spent : {s : List ℕ} {t : Tree} {w : Word} → Judged s t w → fullCount w t ≤ limitOf (size t) (length w)
@@ -177,7 +157,7 @@ text-most s = most (comes s)
 
     most : Comes s → length (jobText s) ≤ 328985
     most (no-line h) = short (result-none h) (λ e. omega arith)
-    most (at-rule d m) = short (result-rule d m) (refusal-number m)
+    most (at-rule d m) = short (result-rule d m) (rule-rows.refused-number m)
     most (at-day d p m) = short (result-day d p m) (λ e. omega (arith, m .refused))
     most (at-judge j) = let f = ap length (text-judged j) in omega (arith, judged-most j)
 
@@ -191,7 +171,7 @@ module _ (s old : List ℕ) (room : 328985 ≤ length old) where
 
   told : Comes s → jobText s ≡ answered (jobAnswer s old)
   told (no-line h) = stopped (result-none h) (λ e. omega arith)
-  told (at-rule d m) = stopped (result-rule d m) (refusal-number m)
+  told (at-rule d m) = stopped (result-rule d m) (rule-rows.refused-number m)
   told (at-day d p m) = stopped (result-day d p m) (λ e. omega (arith, m .refused))
   told (at-judge {t = t} {w = w} j) =
       let l : length (text w t) ≤ length old = omega (arith, judged-most j) in

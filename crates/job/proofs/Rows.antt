@@ -12,28 +12,32 @@ use Rattle.bits.proofs.Digits.{same-or-not}
 use Rattle.event.specs.Event.{Word}
 use Rattle.regex.specs.Tree.{Tree, size, specials}
 use Rattle.rule.specs.RuleAnswer as reader
-use Rattle.rule.specs.RuleAnswer.{RuleAnswer, ruleAnswer}
-use Rattle.rule.specs.RuleMeaning.{RuleMeaning, empty-text, long-text, foreign-byte, no-sentence, many-nodes, many-specials}
+use Rattle.rule.specs.RuleAnswer.{RuleAnswer}
+use Rattle.rule.specs.RuleComputed.{ruleAnswer}
+use Rattle.rule.specs.RuleMeaning.{Passed, RuleMeaning}
 use Rattle.rule.specs.RuleMeaning as rule-meaning
 use Rattle.rule.proofs.Answered as rule-answered
+use Rattle.rule.proofs.Rows.{accepting, refusing, refused-number}
 use Rattle.day.specs.DayFile.{DayEvent, letterOf}
-use Rattle.day.specs.DayAnswer.{dayAnswer}
+use Rattle.day.specs.DayComputed.{dayAnswer}
 use Rattle.day.specs.DayMeaning.{DayMeaning, Whole}
 use Rattle.day.specs.DayMeaning as day-meaning
 use Rattle.day.proofs.Answered as day-answered
+use Rattle.day.proofs.Rows as day-rows
+use Rattle.day.proofs.Rows.{rebuffered}
 use Rattle.work.specs.Count.{fullCount}
-use Rattle.work.specs.Table.{needOf, found, block}
+use Rattle.work.specs.Table.{needOf}
+use Rattle.work.specs.TableComputed.{found, block}
 use Rattle.work.proofs.WorkBound.{full-bound}
-use Rattle.matcher.specs.MatchAnswer as matcher
+use Rattle.matcher.specs.MatchComputed.{acceptance}
 use Rattle.matcher.specs.MatchMeaning.{LegalWord}
 use Rattle.matcher.proofs.Tested.{need-most, at-acceptance}
-use Rattle.judge.specs.JudgeAnswer.{JudgeAnswer, judgeAnswer}
-use Rattle.judge.specs.JudgeMeaning.{Passed}
+use Rattle.judge.specs.JudgeAnswer.{JudgeAnswer}
+use Rattle.judge.specs.JudgeComputed.{judgeAnswer}
 use Rattle.judge.proofs.Determined.{to-limit}
-use Rattle.judge.proofs.Joined.{accepting, refusing, passes}
-use Rattle.job.specs.JobAnswer.{refused, listed, limitOf, afterJudge, afterDay, afterRule, isJob, ruleOf, dayOf, jobResult}
+use Rattle.job.specs.JobComputed.{refused, listed, limitOf, afterJudge, afterDay, afterRule, isJob, ruleOf, dayOf, jobResult}
 use Rattle.job.specs.JobMeaning.{Parted, DayRefused, Judged}
-use Rattle.job.proofs.Days.{day-accepting, rebuffered, legal-word}
+use Rattle.job.proofs.Days.{legal-word}
 use Rattle.job.specs.FirstBlock.{heading}
 use Rattle.job.proofs.Listed.{first-block}
 use Rattle.job.proofs.Parting.{parted-job, parted-is-job, parted-rule, parted-day}
@@ -54,27 +58,14 @@ parted-result : {s rule file : List ℕ} → Parted s rule file → jobResult s 
 unfolding jobResult
 parted-result p = rw (parted-is-job p) (ap₂ (λ (x y : List ℕ). afterRule x y (ruleAnswer x)) (parted-rule p) (parted-day p))
 
--- a refusal of the rule has a number
-rule-refusal-number : {s : List ℕ} {a : RuleAnswer} → RuleMeaning s a → a .m ≡ 0 → a .number ≡ 0 → ⊥
-rule-refusal-number (empty-text h) m e = omega arith
-rule-refusal-number (long-text h) m e = omega arith
-rule-refusal-number (foreign-byte f h l b) m e = omega arith
-rule-refusal-number (no-sentence l h g) m e = omega arith
-rule-refusal-number (many-nodes l r h) m e = omega arith
-rule-refusal-number (many-specials l r h g) m e = omega arith
-rule-refusal-number (rule-meaning.accepted {t = t} l r h g) m e = omega arith
-
-pub refusal-number : {s : List ℕ} {n p : ℕ} → RuleMeaning s (reader.refusal n p) → n ≡ 0 → ⊥
-refusal-number m e = rule-refusal-number m refl e
-
 pub result-rule : {s rule file : List ℕ} {n p : ℕ} → Parted s rule file → RuleMeaning rule (reader.refusal n p) → jobResult s ≡ refused n p
 result-rule {rule = rule} {file = file} {n = n} {p = p} d m =
-    parted-result d ∙ ap (afterRule rule file) (sym (rule-answered.answer-is m)) ∙ simp (ne-eqb n 0 (refusal-number m))
+    parted-result d ∙ ap (afterRule rule file) (sym (rule-answered.answer-is m)) ∙ simp (ne-eqb n 0 (refused-number m))
 
 -- the rule passes
 rule-passed : {s rule file : List ℕ} {t : Tree} → Parted s rule file → Passed rule t
     → jobResult s ≡ afterDay rule (size t) (specials t) (dayAnswer file (replicate 255 0) (replicate 255 0))
-rule-passed {rule = rule} {file = file} d p = parted-result d ∙ ap (afterRule rule file) (sym (rule-answered.answer-is (passes p)))
+rule-passed {rule = rule} {file = file} d p = parted-result d ∙ ap (afterRule rule file) (sym (rule-answered.answer-is (rule-meaning.accepted p)))
 
 zeros-long : (n : ℕ) → n ≤ 255 → n ≤ length {A = ℕ} (replicate 255 0)
 zeros-long n h = omega (arith, length-replicate {A = ℕ} 255 0)
@@ -93,7 +84,7 @@ limit-enough w t = omega (arith, full-bound w t)
 
 -- the judge accepts every job that comes to it
 pub judge-accepts : {rule : List ℕ} {t : Tree} {w : Word} → Passed rule t → LegalWord w
-    → judgeAnswer rule w (limitOf (size t) (length w)) (replicate 8192 0) ≡ matcher.acceptance t w (replicate 8192 0)
+    → judgeAnswer rule w (limitOf (size t) (length w)) (replicate 8192 0) ≡ acceptance t w (replicate 8192 0)
 judge-accepts {rule} {t} {w} p l =
     let z = length-replicate {A = ℕ} 8192 0 in
     let m = need-most (specials t) (length w) (p .special) (l .fits) in
@@ -103,7 +94,7 @@ judge-accepts {rule} {t} {w} p l =
 
 -- what is left of the judge's answer: found, count and the text
 after-acceptance : (w : Word) (t : Tree) (old : List ℕ)
-    → afterJudge (matcher.acceptance t w old) (length w) (size t) (specials t) ≡ listed (heading w t) (block w t)
+    → afterJudge (acceptance t w old) (length w) (size t) (specials t) ≡ listed (heading w t) (block w t)
 after-acceptance w t old = ap (listed (heading w t)) (first-block w t (drop (needOf (specials t) (length w)) old))
 
 -- the judge's row, for a day that passes
@@ -139,7 +130,7 @@ comes-day {rule = rule} {file = file} d p =
     let m = day-answered.answer-means file z z in
     ⊎-elim
     (λ (e : a .number ≡ 0).
-    let g = day-accepting m e in
+    let g = day-rows.accepting m e in
     at-judge (record { rule = rule; file = file; parted = d; passed = p; events = g .events; whole = g .whole; word = refl }))
     (λ (e : a .number ≡ 0 → ⊥).
     at-day d p

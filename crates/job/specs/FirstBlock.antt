@@ -5,7 +5,7 @@ use lib.ListN.{length}
 use Rattle.event.specs.Event.{Word}
 use Rattle.regex.specs.Tree.{Tree, size, specials}
 use Rattle.work.specs.Count.{fullCount}
-use Rattle.work.specs.Table.{block, found}
+use Rattle.work.specs.TableComputed.{block, found}
 use Rattle.listing.specs.declared.Heading.{Heading}
 use Rattle.listing.specs.Marked.{listing}
 

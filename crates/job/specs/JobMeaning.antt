@@ -9,7 +9,7 @@ use lib.ListN.{length, getD}
 use Rattle.event.specs.Event.{Word}
 use Rattle.regex.specs.Tree.{Tree, size, specials}
 use Rattle.rule.specs.RuleAnswer as reader
-use Rattle.rule.specs.RuleMeaning.{RuleMeaning}
+use Rattle.rule.specs.RuleMeaning.{Passed, RuleMeaning}
 use Rattle.day.specs.DayFile.{DayEvent, letterOf}
 use Rattle.day.specs.DayAnswer as day
 use Rattle.day.specs.DayMeaning.{DayMeaning, Whole}
@@ -17,7 +17,6 @@ use Rattle.work.specs.Span.{Obeys}
 use Rattle.work.specs.Spans.{Spans, InOrder}
 use Rattle.work.specs.SizeOf.{SizeOf}
 use Rattle.work.specs.Walk.{Collection}
-use Rattle.judge.specs.JudgeMeaning.{Passed}
 use Rattle.listing.specs.Lines.{headLine, spanLines}
 use Rattle.job.specs.JobAnswer.{JobAnswer, refusal, acceptance}
 

@@ -10,11 +10,12 @@ ghost use mathlib.Core.Path.{_≡_};
 ghost use Prim.Native.Nat.{ℕ, _≤_};
 ghost use mathlib.Core.List.{List};
 ghost use lib.ListN.{length, replicate};
-ghost use Rattle.rule.specs.RuleAnswer.{ruleAnswer};
-ghost use Rattle.day.specs.DayAnswer.{dayAnswer};
+ghost use Rattle.rule.specs.RuleComputed.{ruleAnswer};
+ghost use Rattle.day.specs.DayComputed.{dayAnswer};
 ghost use Rattle.table.specs.Layout.{blockAt, Lies};
-ghost use Rattle.judge.specs.JudgeAnswer.{judgeAnswer};
-ghost use Rattle.job.specs.JobAnswer.{jobValues, jobAnswer, written, refusal, listed, limitOf, afterRule, afterDay, afterJudge};
+ghost use Rattle.judge.specs.JudgeComputed.{judgeAnswer};
+ghost use Rattle.job.specs.JobAnswer.{jobValues, refusal};
+ghost use Rattle.job.specs.JobComputed.{jobAnswer, written, listed, limitOf, afterRule, afterDay, afterJudge};
 ghost use Rattle.job.specs.JobMeaning.{JobMeaning};
 
 // The numbers of a table that is long enough for every job.
@@ -62,7 +63,7 @@ fn run_rule(rule: &[u8], file: &[u8], out: &mut [u8]) -> Answer
     let reading = rule::read(rule);
     let outcome = reading.outcome;
     let RuleOutcome::Accepted(m, k) = outcome else {
-        return refused(verdict::of_rule(outcome));
+        return refused(rule::outcome_verdict(outcome));
     };
     run_day(rule, m, k, file, out)
 }
@@ -78,7 +79,7 @@ fn run_day(rule: &[u8], m: usize, k: usize, file: &[u8], out: &mut [u8]) -> Answ
     let mut seconds = [0u32; 255];
     let outcome = day::read(file, &mut letters, &mut seconds);
     let DayOutcome::Accepted(n) = outcome else {
-        return refused(verdict::of_day(outcome));
+        return refused(day::outcome_verdict(outcome));
     };
     run_judge(rule, m, k, &letters[..n], out)
 }
@@ -97,7 +98,7 @@ fn run_judge(rule: &[u8], m: usize, k: usize, word: &[u8], out: &mut [u8]) -> An
     let mut table = [0u64; TABLE_NUMBERS];
     let outcome = judge::judge(rule, word, limit, &mut table);
     let JudgeOutcome::Accepted(found, count) = outcome else {
-        return refused(verdict::of_judge(outcome));
+        return refused(judge::outcome_verdict(outcome));
     };
     let heading = Heading {
         n: n as u64,
@@ -114,7 +115,7 @@ fn list(heading: Heading, block: &[u64], out: &mut [u8]) -> Answer
     requires { ⌜ Lies (blockAt 0 (heading .n)) (length (now block)) ⌝ }
     ensures { λ r. ⌜ jobValues r (now (out .exit)) ≡ written (listed heading (now (block .entry))) (now (out .entry)) ⌝ }
 {
-    let n = listing::length(heading, block);
+    let n = listing::text_length(heading, block);
     if out.len() < n {
         return refused(verdict::refusal(15, 0));
     }

@@ -4,7 +4,7 @@ ghost use Prim.Native.Nat.{_+_};
 ghost use mathlib.Core.Bool.{cond};
 ghost use lib.ListN.{length};
 ghost use Rattle.event.specs.Leading.{leading};
-ghost use Rattle.job.specs.JobAnswer.{notNewline, isJob, ruleLength};
+ghost use Rattle.job.specs.JobComputed.{notNewline, isJob, ruleLength};
 
 // The offset of the first newline, or the length where there is none.
 fn find_newline(s: &[u8]) -> usize

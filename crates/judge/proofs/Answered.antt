@@ -8,15 +8,15 @@ use Rattle.event.specs.Event.{Word}
 use Rattle.event.proofs.Tests.{choose}
 use Rattle.regex.specs.Tree.{Tree}
 use Rattle.regex.proofs.OneReading.{tree-is}
-use Rattle.rule.specs.RuleAnswer.{ruleAnswer}
+use Rattle.rule.specs.RuleComputed.{ruleAnswer}
 use Rattle.rule.specs.RuleMeaning.{RuleMeaning}
 use Rattle.rule.proofs.Answered as rule-answered
+use Rattle.rule.proofs.Rows.{accepting, refusing}
 use Rattle.work.proofs.Order.{parts-rising}
-use Rattle.matcher.specs.MatchAnswer.{matchAnswer}
+use Rattle.matcher.specs.MatchComputed.{matchAnswer}
 use Rattle.matcher.proofs.Answered as match-answered
-use Rattle.judge.specs.JudgeAnswer.{judgeAnswer}
+use Rattle.judge.specs.JudgeComputed.{judgeAnswer}
 use Rattle.judge.specs.JudgeMeaning.{JudgeMeaning, rule-refused, rule-passed}
-use Rattle.judge.proofs.Joined.{accepting, refusing}
 
 pub answer-means : (s : List ℕ) (w : Word) (limit : ℕ) (old : List ℕ) → JudgeMeaning s w limit old (judgeAnswer s w limit old)
 unfolding judgeAnswer

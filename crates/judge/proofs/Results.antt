@@ -12,23 +12,25 @@ use Rattle.event.proofs.Tests.{choose}
 use Rattle.regex.specs.Tree.{Tree, size, specials}
 use Rattle.regex.specs.TreeOf.{treeOf}
 use Rattle.regex.proofs.OneReading.{tree-is}
-use Rattle.rule.specs.RuleAnswer.{RuleAnswer, ruleAnswer}
-use Rattle.rule.specs.RuleMeaning.{RuleMeaning, empty-text, long-text, foreign-byte, no-sentence, many-nodes, many-specials}
-use Rattle.rule.specs.RuleMeaning as meaning
+use Rattle.rule.specs.RuleAnswer.{RuleAnswer}
+use Rattle.rule.specs.RuleComputed.{ruleAnswer}
+use Rattle.rule.specs.RuleMeaning.{Passed}
 use Rattle.rule.proofs.Answered as rule-answered
+use Rattle.rule.proofs.Rows.{accepting, row-apart}
+use Rattle.verdict.specs.Verdicts.{refused}
 use Rattle.work.specs.Walk.{Collection}
 use Rattle.work.specs.SizeOf.{SizeOf}
 use Rattle.work.specs.Table.{needOf}
-use Rattle.matcher.specs.MatchAnswer.{acceptance}
+use Rattle.matcher.specs.MatchComputed.{acceptance}
 use Rattle.matcher.specs.MatchMeaning.{LegalWord}
 use Rattle.matcher.specs.Agree.{Agree}
 use Rattle.matcher.proofs.Results as match-results
 use Rattle.matcher.proofs.Results.{both, refusals-agree}
-use Rattle.judge.specs.JudgeAnswer.{JudgeAnswer, judgeAnswer}
-use Rattle.judge.specs.JudgeMeaning.{Passed, JudgeMeaning}
+use Rattle.judge.specs.JudgeAnswer.{JudgeAnswer}
+use Rattle.judge.specs.JudgeComputed.{judgeAnswer}
+use Rattle.judge.specs.JudgeMeaning.{JudgeMeaning}
 use Rattle.judge.proofs.Answered.{answer-means}
 use Rattle.judge.proofs.Determined.{to-match}
-use Rattle.judge.proofs.Joined.{accepting}
 
 -- ---- demand 3: "at most m × (n+1) × (n+2)"
 pub count-bound : (s : List ℕ) (w : Word) (limit : ℕ) (old : List ℕ)
@@ -58,15 +60,6 @@ clauses {s} {w} {limit} {old} e = (
 )
 
 -- ---- what the table held
-rule-number : {s : List ℕ} {a : RuleAnswer} → RuleMeaning s a → a .number ≤ 6
-rule-number (empty-text h) = omega arith
-rule-number (long-text h) = omega arith
-rule-number (foreign-byte f h l b) = omega arith
-rule-number (no-sentence l h g) = omega arith
-rule-number (many-nodes l r h) = omega arith
-rule-number (many-specials l r h g) = omega arith
-rule-number (meaning.accepted l r h g) = omega arith
-
 -- the answer and the needed numbers do not depend on what the table held
 pub table-unread : (s : List ℕ) (w : Word) (limit : ℕ) (old old′ : List ℕ) → length old ≡ length old′
     → Agree (needOf (specials (treeOf s)) (length w)) (judgeAnswer s w limit old) (judgeAnswer s w limit old′)
@@ -75,8 +68,9 @@ table-unread s w limit old old′ e =
     let n = needOf (specials (treeOf s)) (length w) in
     both (Agree n) (eqb (ruleAnswer s .number) 0) (λ _. match-results.table-unread (treeOf s) w limit old old′ e)
     (λ f.
-    let l = rule-number (rule-answered.answer-means s) in
-    refusals-agree n (ruleAnswer s .number) (ruleAnswer s .place) old old′ (eqb-false _ _ f) (λ h. omega arith))
+    let m = rule-answered.answer-means s in
+    refusals-agree n (refused (ruleAnswer s .number) (ruleAnswer s .place)) old old′ (eqb-false _ _ f)
+    (λ h. row-apart m (omega arith) (omega arith)))
 
 -- ---- the limit
 -- an answer with the number 0 is the accepting one

@@ -1,3 +1,4 @@
 -- What the judge answers: by computation, and by the grammar, the language and the collection of reached places.
 pub mod JudgeAnswer
 pub mod JudgeMeaning
+pub mod JudgeComputed

@@ -1,28 +1,24 @@
 // The judge: which spans of a word obey a rule, in a lent table, within a lent limit of work.
 use matcher::Outcome as MatchOutcome;
+use matcher::Refusal as MatchRefusal;
 use rule::Outcome as RuleOutcome;
+use rule::Refusal as RuleRefusal;
+use verdict::Verdict;
 ghost use mathlib.Core.Path.{_≡_};
 ghost use mathlib.Core.List.{List};
 ghost use Prim.Native.Nat.{ℕ, _+_, _*_, _≤_};
 ghost use lib.ListN.{length};
-ghost use Rattle.rule.specs.RuleAnswer.{ruleAnswer};
+ghost use Rattle.rule.specs.RuleComputed.{ruleAnswer};
 ghost use Rattle.matcher.specs.MatchAnswer.{matchValues};
-ghost use Rattle.judge.specs.JudgeAnswer.{judgeValues, judgeAnswer};
+ghost use Rattle.judge.specs.JudgeAnswer.{outcomeVerdict, judgeValues};
+ghost use Rattle.judge.specs.JudgeComputed.{judgeAnswer};
 ghost use Rattle.judge.specs.JudgeMeaning.{JudgeMeaning};
 
-// Accepted, with found and count; or refused: what the rule reader refuses, with its places; then the word, the table and the limit.
+// Accepted, with found and count; or refused: by the rule reader, or for the word, the table or the limit.
 pub enum Outcome {
     Accepted(u64, u64),
-    EmptyText,
-    LongText,
-    ForeignByte(usize),
-    NoSentence(usize),
-    ManyNodes,
-    ManySpecials,
-    LongWord,
-    ForeignEvent(usize),
-    ShortTable,
-    Spent(u64),
+    RuleRefused(RuleRefusal),
+    Refused(MatchRefusal),
 }
 
 // Judges every span of the word by the rule, and fills the table.
@@ -41,12 +37,7 @@ pub fn judge(rule: &[u8], word: &[u8], limit: u64, table: &mut [u64]) -> Outcome
         RuleOutcome::Accepted(m, k) => {
             matched(matcher::match_spans(nodes, m, k, word, limit, table))
         }
-        RuleOutcome::EmptyText => Outcome::EmptyText,
-        RuleOutcome::LongText => Outcome::LongText,
-        RuleOutcome::ForeignByte(place) => Outcome::ForeignByte(place),
-        RuleOutcome::NoSentence(place) => Outcome::NoSentence(place),
-        RuleOutcome::ManyNodes => Outcome::ManyNodes,
-        RuleOutcome::ManySpecials => Outcome::ManySpecials,
+        RuleOutcome::Refused(refusal) => Outcome::RuleRefused(refusal),
     }
 }
 
@@ -56,9 +47,17 @@ fn matched(outcome: MatchOutcome) -> Outcome
 {
     match outcome {
         MatchOutcome::Accepted(found, count) => Outcome::Accepted(found, count),
-        MatchOutcome::LongWord => Outcome::LongWord,
-        MatchOutcome::ForeignEvent(place) => Outcome::ForeignEvent(place),
-        MatchOutcome::ShortTable => Outcome::ShortTable,
-        MatchOutcome::Spent(count) => Outcome::Spent(count),
+        MatchOutcome::Refused(refusal) => Outcome::Refused(refusal),
+    }
+}
+
+// Number, place, found and count of an answer.
+pub fn outcome_verdict(outcome: Outcome) -> Verdict
+    ensures { λ r. ⌜ r ≡ outcomeVerdict outcome ⌝ }
+{
+    match outcome {
+        Outcome::Accepted(found, count) => verdict::acceptance(found, count),
+        Outcome::RuleRefused(refusal) => rule::refusal_verdict(refusal),
+        Outcome::Refused(refusal) => matcher::refusal_verdict(refusal),
     }
 }

@@ -11,7 +11,8 @@ use lib.ListN.{getD}
 use lib.Bits.{bitAnd}
 use lib.Dec.{eqb}
 use borrow.Author.Tests.{eqb-false}
-use Rattle.bits.specs.Bit.{hasBit, bitAt, Merged, Adds}
+use Rattle.bits.specs.Bit.{hasBit, bitAt}
+use Rattle.bits.specs.Runs.{Merged, Adds}
 use Rattle.bits.proofs.Digits.{below-or-not, same-or-not, and-both, and-left, and-right}
 use Rattle.bits.proofs.Laws.{merged-adds, adds-then, adds-as}
 use Rattle.levels.specs.Sets.{Entries, LetterExit}

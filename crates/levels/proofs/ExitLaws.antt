@@ -9,7 +9,8 @@ use lib.ListN.{length, getD, set, length-set}
 use lib.Seq.{getD-set-same, getD-set-other}
 use lib.Bits.{bitOr}
 use borrow.Author.Tests.{ltb-true, ltb-false, lt-ltb}
-use Rattle.bits.specs.Bit.{hasBit, bitAt, Put, Merged, Adds, First}
+use Rattle.bits.specs.Bit.{hasBit, bitAt}
+use Rattle.bits.specs.Runs.{Put, Merged, Adds, First}
 use Rattle.bits.proofs.Digits.{below-or-not, same-or-not, zero-has, has-or, mask-has}
 use Rattle.bits.proofs.Laws.{put-adds, merged-adds, adds-then, adds-as, or-cases}
 use Rattle.levels.specs.Sets.{Exactly, Among}

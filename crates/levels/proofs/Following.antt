@@ -7,7 +7,8 @@ use Prim.Native.Nat.{ℕ, _+_, _-_, _*_, _%_, _^_, _<_}
 use native.Mathlib.Omega.{arith}
 use lib.ListN.{length, getD, replicate}
 use lib.Bits.{bitOr}
-use Rattle.bits.specs.Bit.{hasBit, bitAt, tallyBelow, Merged, Adds, First}
+use Rattle.bits.specs.Bit.{hasBit, bitAt}
+use Rattle.bits.specs.Runs.{tallyBelow, Merged, Adds, First}
 use Rattle.bits.proofs.Digits.{same-or-not, has-or, power-has, power-lacks}
 use Rattle.bits.proofs.Laws.{adds-as, zeros-bit}
 use Rattle.bits.proofs.Tally.{left-less}

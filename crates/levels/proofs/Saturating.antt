@@ -6,7 +6,8 @@ use mathlib.Core.List.{List}
 use Prim.Native.Nat.{ℕ, _+_, _*_, _/_, _%_, _≤_, _<_}
 use native.Mathlib.Omega.{arith}
 use lib.ListN.{length, getD}
-use Rattle.bits.specs.Bit.{bitAt, Put, Adds}
+use Rattle.bits.specs.Bit.{bitAt}
+use Rattle.bits.specs.Runs.{Put, Adds}
 use Rattle.bits.proofs.Digits.{same-or-not}
 use Rattle.bits.proofs.Laws.{put-adds, adds-as, adds-none}
 use Rattle.moves.specs.Reached.{Reached, start, after}

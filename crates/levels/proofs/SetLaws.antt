@@ -8,7 +8,8 @@ use native.Mathlib.Omega.{arith}
 use lib.ListN.{length, getD, List·getD-eq-default}
 use lib.Dec.{lit<}
 use lib.Bits.{bitAnd, bitOr, or-add-and, and-le-l, and-le-r}
-use Rattle.bits.specs.Bit.{hasBit, bitAt, tallyBelow, Put, Adds, First}
+use Rattle.bits.specs.Bit.{hasBit, bitAt}
+use Rattle.bits.specs.Runs.{tallyBelow, Put, Adds, First}
 use Rattle.bits.proofs.Digits.{below-or-not, zero-has, and-both, and-left, and-right}
 use Rattle.bits.proofs.Laws.{put-adds, adds-as}
 use Rattle.bits.proofs.Packed.{packed-is}

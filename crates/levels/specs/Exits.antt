@@ -7,7 +7,8 @@ use mathlib.Core.Logic.{_⊎_, _↔_}
 use mathlib.Core.List.{List}
 use mathlib.Core.Bool.{Bool, true, false, _&&_, _||_}
 use lib.ListN.{length, getD}
-use Rattle.bits.specs.Bit.{bitAt, Adds}
+use Rattle.bits.specs.Bit.{bitAt}
+use Rattle.bits.specs.Runs.{Adds}
 use Rattle.moves.specs.Reached.{Reached}
 use Rattle.moves.specs.Moves.{FreeMove}
 use Rattle.table.specs.Layout.{blockAt, Lies, rowBit}

@@ -5,7 +5,8 @@ use mathlib.Core.Logic.{_⊎_, _↔_}
 use mathlib.Core.List.{List}
 use mathlib.Core.Bool.{Bool, true, false, cond, _&&_, _||_}
 use lib.ListN.{length}
-use Rattle.bits.specs.Bit.{hasBit, bitAt, Put}
+use Rattle.bits.specs.Bit.{hasBit, bitAt}
+use Rattle.bits.specs.Runs.{Put}
 use Rattle.levels.specs.Exits.{toCome, LeftAt, hasSpan}
 
 -- ---- sets of states

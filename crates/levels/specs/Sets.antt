@@ -4,7 +4,8 @@ use mathlib.Core.Path.{_≡_}
 use mathlib.Core.List.{List}
 use mathlib.Core.Bool.{true}
 use lib.ListN.{replicate}
-use Rattle.bits.specs.Bit.{bitAt, Adds}
+use Rattle.bits.specs.Bit.{bitAt}
+use Rattle.bits.specs.Runs.{Adds}
 
 -- q is a state of the set
 pub record InSet (set : List ℕ) (q : ℕ) : Type 0 where

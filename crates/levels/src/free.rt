@@ -2,7 +2,7 @@
 ghost use mathlib.Core.Path.{_≡_};
 ghost use Prim.Native.Nat.{_*_, _<_};
 ghost use lib.ListN.{length};
-ghost use Rattle.bits.specs.Bit.{Adds};
+ghost use Rattle.bits.specs.Runs.{Adds};
 ghost use Rattle.levels.specs.Sets.{Reflexive, Transitive, AllLed};
 ghost use Rattle.levels.specs.Private.{LedTo, LedIf, FollowedWord};
 

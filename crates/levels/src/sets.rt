@@ -4,7 +4,7 @@ ghost use mathlib.Core.Bool.{false};
 ghost use mathlib.Core.Logic.{_↔_};
 ghost use Prim.Native.Nat.{_*_, _<_};
 ghost use lib.ListN.{length};
-ghost use Rattle.bits.specs.Bit.{Adds};
+ghost use Rattle.bits.specs.Runs.{Adds};
 ghost use Rattle.levels.specs.Sets.{Disjoint};
 ghost use Rattle.levels.specs.Private.{Missing, SameStates, Common, PutIf};
 

@@ -7,7 +7,8 @@ use mathlib.Core.Logic.{_⊎_, inl, inr, ⊎-elim, _↔_}
 use mathlib.Core.Bool.{Bool, true, false, false≢true}
 use mathlib.Core.List.{List, [], _∷_, _++_, List·Memᴰ, List·Memᴰ·head, List·Memᴰ·tail, List·Memᴰ·not-nil, List·Memᴰ·cases-cons}
 use mathlib.Core.List.{List·Memᴰ·append-cases, Memᴰ·append-left, Memᴰ·append-right}
-use Rattle.work.specs.Spans.{Spans, listIf, Before, InOrder}
+use Rattle.work.specs.Spans.{Spans, Before, InOrder}
+use Rattle.work.specs.SpansComputed.{listIf}
 use Rattle.listing.specs.Marked.{ends, starts, marks, marked}
 
 -- ---- the members

@@ -8,7 +8,8 @@ use mathlib.Core.List.{List}
 use lib.Dec.{ltb}
 use lib.ListN.{getD}
 use borrow.Author.Tests.{ltb-true, ltb-false}
-use Rattle.bits.specs.Bit.{hasBit, bitAt, First}
+use Rattle.bits.specs.Bit.{hasBit, bitAt}
+use Rattle.bits.specs.Runs.{First}
 use Rattle.bits.proofs.Digits.{below-or-not, mask-has}
 use Rattle.listing.specs.Marked.{Next}
 

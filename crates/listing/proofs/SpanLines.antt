@@ -9,7 +9,8 @@ use mathlib.Core.List.{List, [], _∷_, _++_, append-assoc}
 use lib.ListN.{length, length-append}
 use Rattle.bits.specs.Bit.{bitAt}
 use Rattle.bits.proofs.Digits.{below-or-not}
-use Rattle.work.specs.Spans.{Spans, listIf}
+use Rattle.work.specs.Spans.{Spans}
+use Rattle.work.specs.SpansComputed.{listIf}
 use Rattle.table.specs.Layout.{blockAt, rowBit}
 use Rattle.table.proofs.LayoutLaws.{row-span}
 use Rattle.listing.specs.declared.Heading.{Heading}

@@ -4,7 +4,8 @@ use mathlib.Core.Path.{_≡_}
 use mathlib.Core.Bool.{Bool, true, false}
 use mathlib.Core.List.{List, [], _++_}
 use Rattle.bits.specs.Bit.{bitAt}
-use Rattle.work.specs.Spans.{Spans, listIf}
+use Rattle.work.specs.Spans.{Spans}
+use Rattle.work.specs.SpansComputed.{listIf}
 use Rattle.table.specs.Layout.{blockAt, spanBit}
 use Rattle.listing.specs.declared.Heading.{Heading}
 use Rattle.listing.specs.Lines.{headLine, spanLines}

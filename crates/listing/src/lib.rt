@@ -46,7 +46,7 @@ pub fn refusal(number: u64, place: u64) -> Line
 }
 
 // The length of a listing.
-pub fn length(heading: Heading, block: &[u64]) -> usize
+pub fn text_length(heading: Heading, block: &[u64]) -> usize
     requires { ⌜ Lies (blockAt 0 (heading .n)) (length (now block)) ⌝ }
     ensures { λ r. ⌜ r ≡ length (listing heading (now (block .entry))) ⌝ }
 {

@@ -8,7 +8,8 @@ use native.Mathlib.Omega.{arith}
 use lib.Dec.{eqb, leb}
 use lib.ListN.{length, replicate}
 use borrow.Author.Tests.{eq-eqb, ne-eqb, le-leb}
-use Rattle.bits.specs.Bit.{bitAt, tallyBelow, Adds}
+use Rattle.bits.specs.Bit.{bitAt}
+use Rattle.bits.specs.Runs.{tallyBelow, Adds}
 use Rattle.bits.proofs.Digits.{same-or-not}
 use Rattle.bits.proofs.Laws.{zeros-bit}
 use Rattle.bits.proofs.Tally.{tally-none, tally-add}

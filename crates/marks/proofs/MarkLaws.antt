@@ -8,7 +8,8 @@ use native.Mathlib.Omega.{arith}
 use lib.ListN.{length, getD, set, length-set}
 use lib.Seq.{getD-set-same, getD-set-other}
 use lib.Bits.{bitOr}
-use Rattle.bits.specs.Bit.{hasBit, bitAt, tallyBelow, Merged, Adds}
+use Rattle.bits.specs.Bit.{hasBit, bitAt}
+use Rattle.bits.specs.Runs.{tallyBelow, Merged, Adds}
 use Rattle.bits.proofs.Digits.{same-or-not}
 use Rattle.bits.proofs.Laws.{adds-as}
 use Rattle.bits.proofs.Tally.{tally-same, tally-add}

@@ -13,7 +13,8 @@ use lib.ListN.{length, getD, set, replicate, length-replicate, getD-replicate, L
 use lib.Seq.{getD-set-same, getD-set-other}
 use lib.Pow.{shl-exact}
 use borrow.Author.Tests.{lt-ltb, le-ltb, le-leb, lt-leb, leb-true, eq-eqb, ne-eqb}
-use Rattle.bits.specs.Bit.{hasBit, bitAt, indicator}
+use Rattle.bits.specs.Bit.{hasBit, bitAt}
+use Rattle.bits.specs.Runs.{indicator}
 use Rattle.bits.proofs.Digits.{below-or-not, same-or-not, zero-has, has-or, has-xor, power-has, power-lacks, mask-has}
 use Rattle.marks.specs.declared.Target.{Target}
 use Rattle.marks.specs.Marks.{EndsBefore}

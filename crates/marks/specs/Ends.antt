@@ -5,7 +5,8 @@ use mathlib.Core.List.{List}
 use mathlib.Core.Bool.{Bool, true, false}
 use mathlib.Core.Logic.{_⊎_, _↔_}
 use lib.ListN.{length, getD, replicate}
-use Rattle.bits.specs.Bit.{bitAt, tallyBelow, Adds}
+use Rattle.bits.specs.Bit.{bitAt}
+use Rattle.bits.specs.Runs.{tallyBelow, Adds}
 use Rattle.table.specs.Layout.{blockAt, RowSpan}
 use Rattle.levels.specs.Sets.{Disjoint, LetterExit}
 use Rattle.marks.specs.declared.Target.{Target}

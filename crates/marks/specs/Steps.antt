@@ -4,7 +4,8 @@ use mathlib.Core.Path.{_≡_}
 use mathlib.Core.List.{List}
 use mathlib.Core.Bool.{Bool, true, false}
 use lib.ListN.{length, getD}
-use Rattle.bits.specs.Bit.{bitAt, tallyBelow, Adds}
+use Rattle.bits.specs.Bit.{bitAt}
+use Rattle.bits.specs.Runs.{tallyBelow, Adds}
 use Rattle.levels.specs.Sets.{LetterExit}
 use Rattle.marks.specs.Marks.{PlaceOf}
 

@@ -9,7 +9,8 @@ ghost use mathlib.Core.Bool.{true};
 ghost use mathlib.Core.Logic.{_↔_};
 ghost use Prim.Native.Nat.{ℕ, _+_, _*_, _≤_, _<_};
 ghost use lib.ListN.{length};
-ghost use Rattle.bits.specs.Bit.{hasBit, bitAt, tallyBelow, Adds};
+ghost use Rattle.bits.specs.Bit.{hasBit, bitAt};
+ghost use Rattle.bits.specs.Runs.{tallyBelow, Adds};
 ghost use Rattle.marks.specs.Marks.{StartsAt, PlaceOf, StoredAt, MarkedAt, Finished};
 
 // What an owner's walks fill: they begin before the exits left and right and end at them; the first number of the block; whether it has

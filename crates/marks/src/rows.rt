@@ -4,7 +4,8 @@ ghost use mathlib.Core.Path.{_≡_};
 ghost use Prim.Native.Nat.{ℕ, _+_, _*_, _<_, _≤_, max, min};
 ghost use lib.ListN.{length};
 ghost use lib.Dec.{ltb};
-ghost use Rattle.bits.specs.Bit.{bitAt, indicator};
+ghost use Rattle.bits.specs.Bit.{bitAt};
+ghost use Rattle.bits.specs.Runs.{indicator};
 ghost use Rattle.marks.specs.Marks.{EndsBefore};
 ghost use Rattle.marks.specs.Rows.{met, metFrom, rowOf, Shows};
 

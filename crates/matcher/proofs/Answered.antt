@@ -13,11 +13,14 @@ use Rattle.event.proofs.LeadingLaws.{leading-found}
 use Rattle.event.proofs.Tests.{choose}
 use Rattle.regex.specs.Tree.{Tree, specials}
 use Rattle.work.specs.Count.{fullCount}
-use Rattle.work.specs.Table.{needOf, blockLength, specialParts, Rising, table}
+use Rattle.work.specs.Table.{needOf, blockLength, Rising}
+use Rattle.work.specs.TableComputed.{specialParts, table}
 use Rattle.work.proofs.Order.{listed-special, special-listed}
 use Rattle.work.proofs.TableLaws.{parts-length, table-length, table-holds, table-small, holds-in-front}
 use Rattle.work.proofs.WorkSize.{collection-size}
-use Rattle.matcher.specs.MatchAnswer.{MatchAnswer, FitAnswer, values, foreignAt, fitAnswer, afterFit, limited, matchAnswer}
+use Rattle.matcher.specs.MatchAnswer.{MatchAnswer, values}
+use Rattle.matcher.specs.MatchComputed.{foreignAt, fitAnswer, afterFit, limited, matchAnswer}
+use Rattle.verdict.specs.declared.Verdict.{Verdict}
 use Rattle.matcher.specs.MatchMeaning.{LegalWord, KeepsBeyond, HoldsTable, MatchMeaning}
 use Rattle.matcher.specs.MatchMeaning.{long-word, foreign-event, short-table, limit-spent, accepted}
 use Rattle.matcher.proofs.Limited.{found-counted}
@@ -74,7 +77,7 @@ module _ (t : Tree) (up : Rising 0 (specialParts t)) (w : Word) (limit : ℕ) (o
       (keeps-beyond (table w t) old (table-length w t) room)))
 
   -- what the answer after a check of word and table means
-  abbrev After : FitAnswer → Type 0
+  abbrev After : Verdict → Type 0
   After f = M (afterFit f old (limited t w limit old))
 
   pub answer-means : M (matchAnswer t w limit old)

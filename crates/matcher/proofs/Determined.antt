@@ -13,13 +13,16 @@ use Rattle.event.proofs.LeadingLaws.{leading-is}
 use Rattle.regex.specs.Tree.{Tree, specials}
 use Rattle.work.specs.Count.{fullCount}
 use Rattle.work.specs.Walk.{Collection}
-use Rattle.work.specs.Table.{needOf, blockLength, HoldsBlock, specialParts, Rising, table}
+use Rattle.work.specs.Table.{needOf, blockLength, HoldsBlock, Rising}
+use Rattle.work.specs.TableComputed.{specialParts, table}
 use Rattle.work.proofs.Order.{listed-special, special-listed, rising-one}
 use Rattle.work.proofs.Sizes.{size-unique}
 use Rattle.work.proofs.TableLaws.{table-length}
 use Rattle.work.proofs.TableOnly.{table-numbers}
 use Rattle.work.proofs.WorkSize.{collection-size}
-use Rattle.matcher.specs.MatchAnswer.{MatchAnswer, values, refusal, fitted, limited, matchAnswer}
+use Rattle.matcher.specs.MatchAnswer.{MatchAnswer, values, refusal}
+use Rattle.matcher.specs.MatchComputed.{limited, matchAnswer}
+use Rattle.verdict.specs.Verdicts as verdict
 use Rattle.matcher.specs.MatchMeaning.{LegalWord, KeepsBeyond, HoldsTable, MatchMeaning}
 use Rattle.matcher.specs.MatchMeaning.{long-word, foreign-event, short-table, limit-spent, accepted}
 use Rattle.matcher.proofs.Answered.{keeps-beyond}
@@ -55,17 +58,17 @@ held-table {w = w} {t = t} {b = b} up short room h k =
 pub to-limit : (t : Tree) (w : Word) (limit : ℕ) (old : List ℕ) → LegalWord w → needOf (specials t) (length w) ≤ length old
     → limited t w limit old ≡ matchAnswer t w limit old
 to-limit t w limit old l room =
-    after-fit t w limit old (fitted 0 0) (sym (at-fit (specials t) w old (l .fits) (foreign-none w (l .events)) room))
+    after-fit t w limit old (verdict.accepted 0 0) (sym (at-fit (specials t) w old (l .fits) (foreign-none w (l .events)) room))
 
 pub answer-is : {t : Tree} {w : Word} {limit : ℕ} {old : List ℕ} {a : MatchAnswer} → Rising 0 (specialParts t) → MatchMeaning t w limit old a
     → a ≡ matchAnswer t w limit old
-answer-is {t} {w} {limit} {old} up (long-word h) = after-fit t w limit old (fitted 7 0) (sym (at-length (specials t) w old h))
+answer-is {t} {w} {limit} {old} up (long-word h) = after-fit t w limit old (verdict.refused 7 0) (sym (at-length (specials t) w old h))
 answer-is {t} {w} {limit} {old} up (foreign-event {n = n} f h b e) =
     let g = leading-is isEvent w n (record { within = omega arith; before = b; there = λ l. e }) in
     ap (λ (x : ℕ). refusal 8 x old) (sym g)
-    ∙ after-fit t w limit old (fitted 8 _) (sym (at-foreign (specials t) w old f (omega arith)))
+    ∙ after-fit t w limit old (verdict.refused 8 _) (sym (at-foreign (specials t) w old f (omega arith)))
 answer-is {t} {w} {limit} {old} up (short-table l h) =
-    after-fit t w limit old (fitted 9 0) (sym (at-table (specials t) w old (l .fits) (foreign-none w (l .events)) h))
+    after-fit t w limit old (verdict.refused 9 0) (sym (at-table (specials t) w old (l .fits) (foreign-none w (l .events)) h))
 answer-is {t} {w} {limit} {old} up (limit-spent {c = c} {b = b} l room y h z k) =
     let n = needOf (specials t) (length w) in
     let e = split (replicate n 0) k (length-replicate n 0) room (λ i m. z i m ∙ sym (getD-replicate n i 0 0 m)) in

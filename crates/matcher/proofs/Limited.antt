@@ -11,11 +11,13 @@ use Rattle.bits.proofs.Digits.{below-or-not}
 use Rattle.event.specs.Event.{Word}
 use Rattle.regex.specs.Tree.{Tree, specials}
 use Rattle.work.specs.Count.{fullCount}
-use Rattle.work.specs.Table.{block, blocks, blockLength, needOf, specialParts, table, found}
+use Rattle.work.specs.Table.{blockLength, needOf}
+use Rattle.work.specs.TableComputed.{block, blocks, specialParts, table, found}
 use Rattle.work.proofs.TableLaws.{block-length}
 use Rattle.owners.specs.Filling.{FilledTable}
 use Rattle.owners.proofs.Tables.{placed-table}
-use Rattle.matcher.specs.MatchAnswer.{values, limited}
+use Rattle.matcher.specs.MatchAnswer.{values}
+use Rattle.matcher.specs.MatchComputed.{limited}
 use Rattle.matcher.proofs.Tested.{at-spent, at-acceptance}
 
 -- the ones of the first block, counted in the whole table

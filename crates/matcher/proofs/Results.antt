@@ -16,16 +16,41 @@ use Rattle.regex.specs.Tree.{Tree, size, specials}
 use Rattle.work.specs.Count.{fullCount}
 use Rattle.work.specs.Walk.{Collection}
 use Rattle.work.specs.SizeOf.{SizeOf}
-use Rattle.work.specs.Table.{needOf, table, found}
+use Rattle.work.specs.Table.{needOf}
+use Rattle.work.specs.TableComputed.{table, found}
 use Rattle.work.proofs.Sizes.{size-unique}
 use Rattle.work.proofs.TableLaws.{table-length}
 use Rattle.work.proofs.WorkBound.{full-bound}
 use Rattle.work.proofs.WorkSize.{collection-size}
-use Rattle.matcher.specs.MatchAnswer.{MatchAnswer, FitAnswer, values, refusal, acceptance, foreignAt, fitAnswer, limited, matchAnswer}
+use Rattle.matcher.specs.MatchAnswer.{MatchAnswer, values, told}
+use Rattle.matcher.specs.MatchComputed.{acceptance, foreignAt, fitAnswer, limited, matchAnswer}
+use Rattle.verdict.specs.declared.Verdict.{Verdict}
 use Rattle.matcher.specs.Agree.{Agree}
 use Rattle.matcher.specs.MatchMeaning.{LegalWord}
 use Rattle.matcher.proofs.Determined.{to-limit}
 use Rattle.matcher.proofs.Tested.{at-spent, at-acceptance}
+
+-- ---- word and table
+-- the numbers that they are refused with, and that nothing is counted then
+fit-number : (k : ℕ) (w : Word) (old : List ℕ) → fitAnswer k w old .number ≤ 9
+unfolding fitAnswer
+fit-number k w old =
+    choose Below (ltb 255 (length w)) (λ _. omega arith)
+    (λ _. choose Below (ltb (foreignAt w) (length w)) (λ _. omega arith)
+    (λ _. choose Below (ltb (length old) (needOf k (length w))) (λ _. omega arith) (λ _. omega arith)))
+  where
+    Below : Verdict → Type 0
+    Below f = f .number ≤ 9
+
+fit-count : (k : ℕ) (w : Word) (old : List ℕ) → fitAnswer k w old .count ≡ 0
+unfolding fitAnswer
+fit-count k w old =
+    choose Uncounted (ltb 255 (length w)) (λ _. refl)
+    (λ _. choose Uncounted (ltb (foreignAt w) (length w)) (λ _. refl)
+    (λ _. choose Uncounted (ltb (length old) (needOf k (length w))) (λ _. refl) (λ _. refl)))
+  where
+    Uncounted : Verdict → Type 0
+    Uncounted f = f .count ≡ 0
 
 -- ---- demand 3: "at most m × (n+1) × (n+2)"
 pub count-bound : (t : Tree) (w : Word) (limit : ℕ) (old : List ℕ)
@@ -34,7 +59,7 @@ unfolding matchAnswer
 count-bound t w limit old =
     choose Within (eqb (fitAnswer (specials t) w old .number) 0)
     (λ _. choose Within (ltb limit (fullCount w t)) (λ e. omega (arith, ltb-true limit (fullCount w t) e, full-bound w t)) (λ _. full-bound w t))
-    (λ _. omega arith)
+    (λ _. omega (arith, fit-count (specials t) w old))
   where
     Within : MatchAnswer → Type 0
     Within a = a .count ≤ size t * (length w + 1) * (length w + 2)
@@ -45,28 +70,18 @@ pub both : {A : Type 0} (P : A → A → Type 0) (t : Bool) {a b c d : A} → (t
 both P true x y = x refl
 both P false x y = y refl
 
-pub refusals-agree : (need n p : ℕ) (old old′ : List ℕ) → (n ≡ 0 → ⊥) → (n ≡ 10 → ⊥) → Agree need (refusal n p old) (refusal n p old′)
-refusals-agree need n p old old′ f g = record {
+pub refusals-agree : (need : ℕ) (v : Verdict) (old old′ : List ℕ) → (v .number ≡ 0 → ⊥) → (v .number ≡ 10 → ⊥)
+    → Agree need (told v old) (told v old′)
+refusals-agree need v old old′ f g = record {
   number = refl;
   place = refl;
   found = refl;
   count = refl;
-  written = λ h. ⊎-elim (λ (e : n ≡ 0). absurd (f e)) (λ (e : n ≡ 10). absurd (g e)) h;
+  written = λ h. ⊎-elim (λ (e : v .number ≡ 0). absurd (f e)) (λ (e : v .number ≡ 10). absurd (g e)) h;
 }
 
 written-alike : {need : ℕ} {a b : List ℕ} (n p f c : ℕ) → take need a ≡ take need b → Agree need (values n p f c a) (values n p f c b)
 written-alike n p f c e = record { number = refl; place = refl; found = refl; count = refl; written = λ _. e }
-
--- the numbers that word and table are refused with
-fit-number : (k : ℕ) (w : Word) (old : List ℕ) → fitAnswer k w old .number ≤ 9
-unfolding fitAnswer
-fit-number k w old =
-    choose Below (ltb 255 (length w)) (λ _. omega arith)
-    (λ _. choose Below (ltb (foreignAt w) (length w)) (λ _. omega arith)
-    (λ _. choose Below (ltb (length old) (needOf k (length w))) (λ _. omega arith) (λ _. omega arith)))
-  where
-    Below : FitAnswer → Type 0
-    Below f = f .number ≤ 9
 
 -- of the table only the length is looked at
 fit-unread : (k : ℕ) (w : Word) (old old′ : List ℕ) → length old ≡ length old′ → fitAnswer k w old ≡ fitAnswer k w old′
@@ -93,7 +108,7 @@ module _ (t : Tree) (w : Word) (limit : ℕ) (old old′ : List ℕ) where
       let f = fitAnswer (specials t) w old in
       rw (← fit-unread (specials t) w old old′ e)
       (both (Agree need) (eqb (f .number) 0) (λ _. limited-agree)
-      (λ n. let l = fit-number (specials t) w old in refusals-agree need (f .number) (f .place) old old′ (eqb-false _ _ n) (λ h. omega arith)))
+      (λ n. let l = fit-number (specials t) w old in refusals-agree need f old old′ (eqb-false _ _ n) (λ h. omega arith)))
 
 -- ---- the limit
 -- an answer with the number 0 is the accepting one

@@ -12,7 +12,9 @@ use Rattle.event.proofs.Tests.{choose}
 use Rattle.regex.specs.Tree.{Tree, specials}
 use Rattle.work.specs.Count.{fullCount}
 use Rattle.work.specs.Table.{blockLength, needOf}
-use Rattle.matcher.specs.MatchAnswer.{FitAnswer, fitted, foreignAt, fitAnswer, afterFit, spent, acceptance, limited, matchAnswer}
+use Rattle.matcher.specs.MatchComputed.{foreignAt, fitAnswer, afterFit, spent, acceptance, limited, matchAnswer}
+use Rattle.verdict.specs.declared.Verdict.{Verdict}
+use Rattle.verdict.specs.Verdicts.{refused, accepted}
 use Rattle.matcher.specs.Given.{Fitting}
 use Rattle.matcher.proofs.Words.{none-foreign}
 
@@ -25,24 +27,24 @@ need-most k n h l =
 
 -- ---- word and table
 module _ (k : ℕ) (w : Word) (old : List ℕ) where
-  pub at-length : 255 < length w → fitAnswer k w old ≡ fitted 7 0
+  pub at-length : 255 < length w → fitAnswer k w old ≡ refused 7 0
   unfolding fitAnswer
   at-length h = simp (lt-ltb 255 (length w) h)
 
-  pub at-foreign : length w ≤ 255 → foreignAt w < length w → fitAnswer k w old ≡ fitted 8 (foreignAt w)
+  pub at-foreign : length w ≤ 255 → foreignAt w < length w → fitAnswer k w old ≡ refused 8 (foreignAt w)
   unfolding fitAnswer
   at-foreign h f = simp (le-ltb 255 (length w) h, lt-ltb (foreignAt w) (length w) f)
 
-  pub at-table : length w ≤ 255 → length w ≤ foreignAt w → length old < needOf k (length w) → fitAnswer k w old ≡ fitted 9 0
+  pub at-table : length w ≤ 255 → length w ≤ foreignAt w → length old < needOf k (length w) → fitAnswer k w old ≡ refused 9 0
   unfolding fitAnswer
   at-table h f r = simp (le-ltb 255 (length w) h, le-ltb (foreignAt w) (length w) f, lt-ltb (length old) (needOf k (length w)) r)
 
-  pub at-fit : length w ≤ 255 → length w ≤ foreignAt w → needOf k (length w) ≤ length old → fitAnswer k w old ≡ fitted 0 0
+  pub at-fit : length w ≤ 255 → length w ≤ foreignAt w → needOf k (length w) ≤ length old → fitAnswer k w old ≡ accepted 0 0
   unfolding fitAnswer
   at-fit h f r = simp (le-ltb 255 (length w) h, le-ltb (foreignAt w) (length w) f, le-ltb (length old) (needOf k (length w)) r)
 
   -- the first step found nothing, which is what the second takes
-  pub fitting : fitted 0 0 ≡ fitAnswer k w old → Fitting k w old
+  pub fitting : accepted 0 0 ≡ fitAnswer k w old → Fitting k w old
   unfolding fitAnswer
   fitting =
       choose Fits (ltb 255 (length w)) (λ _ e. absurd (other e))
@@ -53,17 +55,17 @@ module _ (k : ℕ) (w : Word) (old : List ℕ) where
         room = ltb-false _ _ r;
       })))
     where
-      Fits : FitAnswer → Type 0
-      Fits f = fitted 0 0 ≡ f → Fitting k w old
+      Fits : Verdict → Type 0
+      Fits f = accepted 0 0 ≡ f → Fitting k w old
 
-      other : {n p : ℕ} → fitted 0 0 ≡ fitted (suc n) p → ⊥
-      other e = let z = ap (λ (f : FitAnswer). f .number) e in omega arith
+      other : {n p : ℕ} → accepted 0 0 ≡ refused (suc n) p → ⊥
+      other e = let z = ap (λ (f : Verdict). f .number) e in omega arith
 
 -- ---- the answer
 module _ (t : Tree) (w : Word) (limit : ℕ) (old : List ℕ) where
-  pub after-fit : (f : FitAnswer) → f ≡ fitAnswer (specials t) w old → afterFit f old (limited t w limit old) ≡ matchAnswer t w limit old
+  pub after-fit : (f : Verdict) → f ≡ fitAnswer (specials t) w old → afterFit f old (limited t w limit old) ≡ matchAnswer t w limit old
   unfolding matchAnswer
-  after-fit f e = ap (λ (x : FitAnswer). afterFit x old (limited t w limit old)) e
+  after-fit f e = ap (λ (x : Verdict). afterFit x old (limited t w limit old)) e
 
   pub at-spent : limit < fullCount w t → limited t w limit old ≡ spent (needOf (specials t) (length w)) limit old
   at-spent h = simp (lt-ltb limit (fullCount w t) h)

@@ -6,7 +6,7 @@ use lib.ListN.{length}
 use Rattle.event.specs.Event.{Word, Events, isEvent}
 use Rattle.event.proofs.LeadingLaws.{leading-found, leading-is}
 use Rattle.event.proofs.Tests.{T-of}
-use Rattle.matcher.specs.MatchAnswer.{foreignAt}
+use Rattle.matcher.specs.MatchComputed.{foreignAt}
 use Rattle.matcher.specs.MatchMeaning.{EventsBefore}
 
 pub all-events : (w : Word) → EventsBefore w (length w) → Events w

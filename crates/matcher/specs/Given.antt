@@ -6,7 +6,8 @@ use lib.ListN.{length}
 use Rattle.event.specs.Event.{Word}
 use Rattle.regex.specs.Tree.{Tree, specials}
 use Rattle.regex.specs.declared.Node.{Node}
-use Rattle.work.specs.Table.{needOf, specialParts, Rising}
+use Rattle.work.specs.Table.{needOf, Rising}
+use Rattle.work.specs.TableComputed.{specialParts}
 use Rattle.owners.specs.Filling.{Recorded}
 use Rattle.matcher.specs.MatchMeaning.{LegalWord}
 

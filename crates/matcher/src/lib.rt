@@ -3,39 +3,37 @@
 mod word;
 
 use regex::Node;
+use verdict::Verdict;
 ghost use mathlib.Core.Path.{_≡_};
-ghost use mathlib.Core.List.{List};
-ghost use Prim.Native.Nat.{ℕ, _≤_};
+ghost use Prim.Native.Nat.{_≤_};
 ghost use Rattle.work.specs.Table.{needOf};
 ghost use Rattle.owners.specs.Filling.{treeFrom};
-ghost use Rattle.matcher.specs.MatchAnswer.{fitValues, fitAnswer, countedValues, limited, matchValues, matchAnswer};
+ghost use Rattle.matcher.specs.MatchAnswer.{refusalVerdict, matchValues};
+ghost use Rattle.matcher.specs.MatchComputed.{fitValues, fitAnswer, limited, matchAnswer};
 ghost use Rattle.matcher.specs.MatchMeaning.{MatchMeaning};
 ghost use Rattle.matcher.specs.Given.{RuleRecords, Fitting};
 
 // The most events that a word may have.
 const MOST_EVENTS: usize = 255;
 
-// Accepted, with found and count; or what refuses the word, the table or the limit.
-pub enum Outcome {
-    Accepted(u64, u64),
+// Why a word, a table or a limit is refused: with the place of a foreign event, and with the limit that is spent.
+pub enum Refusal {
     LongWord,
     ForeignEvent(usize),
     ShortTable,
     Spent(u64),
+}
+
+// Accepted, with found and count, or refused.
+pub enum Outcome {
+    Accepted(u64, u64),
+    Refused(Refusal),
 }
 
 // Word and table fit the rule, or what refuses them.
 pub enum Fit {
     Fits,
-    LongWord,
-    ForeignEvent(usize),
-    ShortTable,
-}
-
-// The table is filled within the limit, with found and count; or the limit, which is then the count, is spent.
-pub enum Counted {
-    Within(u64, u64),
-    Spent(u64),
+    Unfit(Refusal),
 }
 
 // Judges every span of the word by the rule of m nodes, k of them special, and fills the table.
@@ -55,10 +53,8 @@ pub fn match_spans(
 {
     let fit = check_fit(k, word, table);
     match fit {
-        Fit::Fits => outcome_of(fill_and_count(nodes, m, k, word, limit, table)),
-        Fit::LongWord => Outcome::LongWord,
-        Fit::ForeignEvent(place) => Outcome::ForeignEvent(place),
-        Fit::ShortTable => Outcome::ShortTable,
+        Fit::Fits => fill_and_count(nodes, m, k, word, limit, table),
+        Fit::Unfit(refusal) => Outcome::Refused(refusal),
     }
 }
 
@@ -69,14 +65,14 @@ pub fn check_fit(k: usize, word: &[u8], table: &[u64]) -> Fit
 {
     let n = word.len();
     if MOST_EVENTS < n {
-        return Fit::LongWord;
+        return Fit::Unfit(Refusal::LongWord);
     }
     let foreign = word::find_foreign(word);
     if foreign < n {
-        return Fit::ForeignEvent(foreign);
+        return Fit::Unfit(Refusal::ForeignEvent(foreign));
     }
     if table.len() < needed(k, n) {
-        return Fit::ShortTable;
+        return Fit::Unfit(Refusal::ShortTable);
     }
     Fit::Fits
 }
@@ -89,10 +85,10 @@ pub fn fill_and_count(
     word: &[u8],
     limit: u64,
     table: &mut [u64],
-) -> Counted
+) -> Outcome
     requires { ⌜ RuleRecords (treeFrom nodes m) nodes m k ⌝ }
     requires { ⌜ Fitting k (now word) (now table) ⌝ }
-    ensures { λ r. ⌜ countedValues r (now (table .exit))
+    ensures { λ r. ⌜ matchValues r (now (table .exit))
         ≡ limited (treeFrom nodes m) (now (word .entry)) limit (now (table .entry)) ⌝ }
 {
     let n = word.len();
@@ -100,20 +96,10 @@ pub fn fill_and_count(
     let block = table::block_length(n);
     let tally = owners::fill(nodes, m, word, limit, &mut table[..need], 0, block);
     if tally.spent {
-        return Counted::Spent(limit);
+        return Outcome::Refused(Refusal::Spent(limit));
     }
     let found = bits::count(table, block);
-    Counted::Within(found, tally.count)
-}
-
-// What the second step found, as the outcome of both.
-fn outcome_of(counted: Counted) -> Outcome
-    ensures { λ r. ⌜ ((b : List ℕ) → matchValues r b ≡ countedValues counted b) ⌝ }
-{
-    match counted {
-        Counted::Within(found, count) => Outcome::Accepted(found, count),
-        Counted::Spent(count) => Outcome::Spent(count),
-    }
+    Outcome::Accepted(found, tally.count)
 }
 
 // The numbers that k special nodes and n events need.
@@ -122,4 +108,21 @@ fn needed(k: usize, n: usize) -> usize
     ensures { λ r. ⌜ r ≡ needOf k n ⌝ }
 {
     (k + 1) * table::block_length(n)
+}
+
+// Number, place and count of each refusal.
+pub fn refusal_verdict(refusal: Refusal) -> Verdict
+    ensures { λ r. ⌜ r ≡ refusalVerdict refusal ⌝ }
+{
+    match refusal {
+        Refusal::LongWord => verdict::refusal(7, 0),
+        Refusal::ForeignEvent(place) => verdict::refusal(8, place as u64),
+        Refusal::ShortTable => verdict::refusal(9, 0),
+        Refusal::Spent(limit) => Verdict {
+            number: 10,
+            place: 0,
+            found: 0,
+            count: limit,
+        },
+    }
 }

@@ -1,6 +1,6 @@
 // The bytes of a word.
 ghost use mathlib.Core.Path.{_≡_};
-ghost use Rattle.matcher.specs.MatchAnswer.{foreignAt};
+ghost use Rattle.matcher.specs.MatchComputed.{foreignAt};
 
 // The offset of the first byte that is no event, or the length where there is none.
 pub fn find_foreign(word: &[u8]) -> usize

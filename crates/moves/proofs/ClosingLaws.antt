@@ -6,7 +6,8 @@ use mathlib.Core.List.{List}
 use Prim.Native.Nat.{ℕ, _+_, _-_, _*_, _/_, _%_, _≤_, _<_}
 use native.Mathlib.Omega.{arith}
 use lib.ListN.{getD, replicate}
-use Rattle.bits.specs.Bit.{bitAt, tallyBelow, Put, Merged, Adds, First}
+use Rattle.bits.specs.Bit.{bitAt}
+use Rattle.bits.specs.Runs.{tallyBelow, Put, Merged, Adds, First}
 use Rattle.bits.proofs.Digits.{below-or-not}
 use Rattle.bits.proofs.Laws.{put-adds, adds-none, adds-then, adds-as, zeros-bit}
 use Rattle.bits.proofs.Tally.{left-less}

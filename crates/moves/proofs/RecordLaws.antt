@@ -6,7 +6,8 @@ use mathlib.Core.List.{List}
 use Prim.Native.Nat.{ℕ, _+_, _*_, _/_, _%_, _≤_, _<_}
 use native.Mathlib.Omega.{arith}
 use lib.ListN.{getD, replicate}
-use Rattle.bits.specs.Bit.{bitAt, Put, Adds}
+use Rattle.bits.specs.Bit.{bitAt}
+use Rattle.bits.specs.Runs.{Put, Adds}
 use Rattle.bits.proofs.Digits.{below-or-not, same-or-not}
 use Rattle.bits.proofs.Laws.{put-adds, adds-none, adds-then, adds-as, zeros-bit}
 use Rattle.regex.specs.declared.Kind.{Kind}

@@ -6,7 +6,8 @@ use mathlib.Core.List.{List}
 use Prim.Native.Nat.{ℕ, _+_, _-_, _*_, _/_, _%_, _≤_, _<_}
 use native.Mathlib.Omega.{arith}
 use lib.ListN.{getD}
-use Rattle.bits.specs.Bit.{hasBit, bitAt, Merged, Adds}
+use Rattle.bits.specs.Bit.{hasBit, bitAt}
+use Rattle.bits.specs.Runs.{Merged, Adds}
 use Rattle.bits.proofs.Digits.{below-or-not, same-or-not}
 use Rattle.bits.proofs.Laws.{merged-adds, adds-then, adds-as}
 

@@ -3,7 +3,7 @@ ghost use mathlib.Core.Path.{_≡_};
 ghost use mathlib.Core.List.{List};
 ghost use Prim.Native.Nat.{ℕ, _+_, _<_, _≤_};
 ghost use lib.ListN.{length};
-ghost use Rattle.bits.specs.Bit.{Adds};
+ghost use Rattle.bits.specs.Runs.{Adds};
 ghost use Rattle.moves.specs.Moves.{Closed};
 ghost use Rattle.moves.specs.Closing.{NextState, Through, Followed, Completed, OnDiagonal, LeaveBelow};
 

@@ -4,7 +4,7 @@ use regex::Kind;
 ghost use mathlib.Core.Path.{_≡_};
 ghost use Prim.Native.Nat.{_<_};
 ghost use lib.ListN.{length};
-ghost use Rattle.bits.specs.Bit.{Adds};
+ghost use Rattle.bits.specs.Runs.{Adds};
 ghost use Rattle.moves.specs.Moves.{KindLetter, KindSpecial};
 
 // Adds the entry of node i to those of its letter, if it has one.

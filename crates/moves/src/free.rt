@@ -4,7 +4,7 @@ use regex::Node;
 ghost use mathlib.Core.Path.{_≡_};
 ghost use Prim.Native.Nat.{_+_, _*_, _<_, _≤_};
 ghost use lib.ListN.{length};
-ghost use Rattle.bits.specs.Bit.{Put, Adds};
+ghost use Rattle.bits.specs.Runs.{Put, Adds};
 ghost use Rattle.moves.specs.Moves.{NotFirst, SidesBefore, KindMove, RecordMove, SidedMove};
 
 // Adds the move from state s to state t.

@@ -12,7 +12,7 @@ use regex::Node;
 ghost use mathlib.Core.Path.{_≡_};
 ghost use Prim.Native.Nat.{_≤_};
 ghost use lib.ListN.{length, replicate};
-ghost use Rattle.bits.specs.Bit.{Adds};
+ghost use Rattle.bits.specs.Runs.{Adds};
 ghost use Rattle.moves.specs.Moves.{specialKind, SidesBefore, ClosedMoves, LetterEntry, SpecialEntry};
 
 // Whether a walk passes a node of this kind by the span table alone.

@@ -9,7 +9,7 @@ use native.Mathlib.Nat.{mul-le-mul-right}
 use lib.Dec.{T, ltb}
 use lib.ListN.{length, getD, List·getD-eq-default}
 use borrow.Author.Tests.{lt-ltb, le-ltb}
-use Rattle.bits.specs.Bit.{indicator}
+use Rattle.bits.specs.Runs.{indicator}
 use Rattle.bits.proofs.Digits.{below-or-not, same-or-not}
 use Rattle.event.specs.Event.{Word}
 use Rattle.event.proofs.Tests.{T-of, of-T}
@@ -17,7 +17,8 @@ use Rattle.regex.specs.declared.Node.{Node}
 use Rattle.regex.specs.Tree.{Tree, empty, offset, below, size, isSpecial, specials}
 use Rattle.table.specs.Layout.{blockAt, Lies}
 use Rattle.table.proofs.LayoutLaws.{number-part}
-use Rattle.work.specs.Table.{blockLength, HoldsBlock, specialParts, Rising}
+use Rattle.work.specs.Table.{blockLength, HoldsBlock, Rising}
+use Rattle.work.specs.TableComputed.{specialParts}
 use Rattle.work.proofs.Order.{listed-special, special-listed}
 use Rattle.work.proofs.TableLaws.{parts-length}
 use Rattle.owners.specs.Filling.{Recorded, OffSpecials}

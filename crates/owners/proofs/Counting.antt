@@ -9,7 +9,8 @@ use native.Mathlib.Numerals.{add-one}
 use native.Mathlib.Nat.{le-refl}
 use native.Mathlib.Decide.{le-ind}
 use lib.Dec.{T}
-use Rattle.bits.specs.Bit.{bitAt, indicator, tallyBelow}
+use Rattle.bits.specs.Bit.{bitAt}
+use Rattle.bits.specs.Runs.{indicator, tallyBelow}
 use Rattle.bits.proofs.Digits.{same-or-not}
 use Rattle.bits.proofs.Tally.{tally-more}
 use Rattle.event.proofs.Tests.{T-of, of-T}

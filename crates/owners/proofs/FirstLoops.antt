@@ -10,7 +10,7 @@ use native.Mathlib.Nat.{mul-le-mul}
 use lib.Dec.{ltb}
 use lib.ListN.{length, getD, set, replicate, length-set, getD-replicate, List·getD-eq-default}
 use lib.Seq.{getD-set-same, getD-set-other}
-use Rattle.bits.specs.Bit.{indicator}
+use Rattle.bits.specs.Runs.{indicator}
 use Rattle.bits.proofs.Digits.{below-or-not, same-or-not}
 use Rattle.regex.specs.declared.Node.{Node}
 use Rattle.moves.specs.Moves.{kindAt, specialKind}

@@ -6,7 +6,7 @@ use native.Mathlib.Omega.{arith}
 use lib.ListN.{length, take, drop, replicate, length-append, length-replicate, replicate-append-replicate}
 use lib.Seq.{take-all, take-at, drop-at}
 use borrow.Rule.Slice.PartMut.{midOf, putMid}
-use Rattle.bits.specs.Bit.{Adds}
+use Rattle.bits.specs.Runs.{Adds}
 use Rattle.regex.specs.declared.Node.{Node}
 use Rattle.levels.specs.AutomatonParts.{closedPart, letterPart, specialPart, firstPart}
 use Rattle.moves.specs.Moves.{ClosedMoves, LetterEntry, SpecialEntry}

@@ -7,7 +7,8 @@ use Prim.Native.Nat.{ℕ, suc, _+_, _*_, _/_, _%_, _≤_, _<_}
 use native.Mathlib.Omega.{arith}
 use lib.Dec.{T}
 use lib.ListN.{length, getD, replicate}
-use Rattle.bits.specs.Bit.{bitAt, Adds}
+use Rattle.bits.specs.Bit.{bitAt}
+use Rattle.bits.specs.Runs.{Adds}
 use Rattle.bits.proofs.Laws.{zeros-bit}
 use Rattle.event.proofs.Tests.{T-of, of-T}
 use Rattle.regex.specs.declared.Kind.{Kind}
@@ -25,7 +26,8 @@ use Rattle.work.specs.Walk.{union-right-out}
 use Rattle.work.specs.Walk.{concatenation-in, concatenation-over, concatenation-out, star-in, star-skip, star-again, star-out}
 use Rattle.work.specs.Walk.{intersection-span}
 use Rattle.work.specs.Walk.{complement-span, RuleMove}
-use Rattle.work.specs.Table.{obeys, HoldsBlock}
+use Rattle.work.specs.Table.{HoldsBlock}
+use Rattle.work.specs.TableComputed.{obeys}
 use Rattle.work.proofs.TableLaws.{obeys-eq}
 use Rattle.owners.specs.Filling.{Recorded}
 use Rattle.owners.specs.Parts.{partAt, SpecialAt}

@@ -10,7 +10,7 @@ use native.Mathlib.Nat.{le-refl}
 use native.Mathlib.Decide.{le-ind}
 use lib.Dec.{ltb}
 use lib.ListN.{length, getD}
-use Rattle.bits.specs.Bit.{indicator}
+use Rattle.bits.specs.Runs.{indicator}
 use Rattle.bits.proofs.Digits.{same-or-not}
 use Rattle.event.specs.Event.{Word}
 use Rattle.regex.specs.declared.Node.{Node}
@@ -18,7 +18,8 @@ use Rattle.regex.specs.Tree.{Tree, empty, epsilon, letter, union, intersection,
 use Rattle.moves.specs.Moves.{kindAt, specialKind}
 use Rattle.walk.specs.Filled.{sumBelow}
 use Rattle.work.specs.Count.{specialWalks}
-use Rattle.work.specs.Table.{blockLength, specialParts}
+use Rattle.work.specs.Table.{blockLength}
+use Rattle.work.specs.TableComputed.{specialParts}
 use Rattle.owners.specs.Filling.{Recorded}
 use Rattle.owners.specs.Parts.{allParts, partAt}
 use Rattle.owners.specs.Blocks.{offsetAt, specialsBefore, firstAt}

@@ -6,12 +6,13 @@ use Prim.Native.Nat.{ℕ, _+_, _*_}
 use native.Mathlib.Omega.{arith}
 use lib.ListN.{length, take, drop, length-drop, take-append-drop}
 use lib.Seq.{take-all}
-use Rattle.bits.proofs.Packed.{Small}
+use Rattle.bits.specs.Runs.{Small}
 use Rattle.event.specs.Event.{Word}
 use Rattle.regex.specs.declared.Node.{Node}
 use Rattle.regex.specs.Tree.{Tree, empty, specials}
 use Rattle.table.proofs.LayoutLaws.{number-part, number-same, held-numbers, held-blocks}
-use Rattle.work.specs.Table.{blockLength, specialParts, table, needOf}
+use Rattle.work.specs.Table.{blockLength, needOf}
+use Rattle.work.specs.TableComputed.{specialParts, table}
 use Rattle.work.proofs.TableLaws.{parts-length}
 use Rattle.owners.specs.Filling.{Fillable, Placed}
 use Rattle.owners.specs.Blocks.{FirstNumbers}

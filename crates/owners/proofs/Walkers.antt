@@ -7,7 +7,8 @@ use Prim.Native.Nat.{ℕ, _+_, _-_, _*_, _/_, _%_, _≤_, _<_}
 use native.Mathlib.Omega.{arith}
 use lib.Dec.{T}
 use lib.ListN.{length, getD}
-use Rattle.bits.specs.Bit.{bitAt, tallyBelow}
+use Rattle.bits.specs.Bit.{bitAt}
+use Rattle.bits.specs.Runs.{tallyBelow}
 use Rattle.event.proofs.Tests.{same-test}
 use Rattle.regex.specs.declared.Node.{Node}
 use Rattle.regex.specs.Tree.{Tree, intersection, complement, below, size, isSpecial}
@@ -22,7 +23,8 @@ use Rattle.walk.specs.Filled.{Apart, Filled}
 use Rattle.work.specs.Walk.{exit, Part, itself, intersection-left, intersection-right, complement-inner, Owner, whole, special}
 use Rattle.work.specs.SizeOf.{SizeOf}
 use Rattle.work.specs.Count.{sumTo, places}
-use Rattle.work.specs.Table.{obeys, HoldsBlock}
+use Rattle.work.specs.Table.{HoldsBlock}
+use Rattle.work.specs.TableComputed.{obeys}
 use Rattle.work.proofs.Moves.{Within, part-range, part-part, node-number}
 use Rattle.work.proofs.TableLaws.{obeys-eq}
 use Rattle.work.proofs.TreeWalk as tree

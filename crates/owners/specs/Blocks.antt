@@ -6,7 +6,7 @@ use mathlib.Core.List.{List}
 use mathlib.Core.Bool.{_&&_, cond}
 use lib.Dec.{ltb}
 use lib.ListN.{getD}
-use Rattle.bits.specs.Bit.{indicator}
+use Rattle.bits.specs.Runs.{indicator}
 use Rattle.event.specs.Event.{Word}
 use Rattle.regex.specs.declared.Node.{Node}
 use Rattle.regex.specs.Tree.{Tree}

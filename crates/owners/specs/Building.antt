@@ -3,7 +3,7 @@ use Prim.Native.Nat.{ℕ}
 use mathlib.Core.Path.{_≡_}
 use mathlib.Core.List.{List}
 use lib.ListN.{length, replicate}
-use Rattle.bits.specs.Bit.{Adds}
+use Rattle.bits.specs.Runs.{Adds}
 use Rattle.regex.specs.declared.Node.{Node}
 use Rattle.levels.specs.AutomatonParts.{closedPart, letterPart, specialPart}
 use Rattle.moves.specs.Moves.{ClosedMoves, LetterEntry, SpecialEntry}

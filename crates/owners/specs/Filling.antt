@@ -10,7 +10,8 @@ use Rattle.regex.specs.declared.Node.{Node}
 use Rattle.regex.specs.Tree.{Tree, size, specials, records}
 use Rattle.regex.specs.TreeOf.{stacked, top}
 use Rattle.work.specs.Count.{fullCount}
-use Rattle.work.specs.Table.{blockLength, block, specialParts, Rising, blocks}
+use Rattle.work.specs.Table.{blockLength, Rising}
+use Rattle.work.specs.TableComputed.{block, specialParts, blocks}
 
 -- the trees that a run of records leaves on a stack
 abbrev pub rebuilt : List Tree → List Node → List Tree

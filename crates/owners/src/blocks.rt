@@ -7,7 +7,7 @@ ghost use mathlib.Core.Bool.{_&&_};
 ghost use Prim.Native.Nat.{_^_, _≤_};
 ghost use lib.Dec.{ltb};
 ghost use lib.ListN.{replicate};
-ghost use Rattle.bits.specs.Bit.{indicator};
+ghost use Rattle.bits.specs.Runs.{indicator};
 ghost use Rattle.moves.specs.Moves.{specialKind};
 ghost use Rattle.owners.specs.Blocks.{specialsBefore, FirstNumbers};
 

@@ -20,8 +20,8 @@ use Rattle.event.proofs.LeadingLaws.{leading-found, leading-is}
 use Rattle.event.proofs.Tests.{choose}
 use Rattle.regex.proofs.ScanDecides.{scan-right}
 use Rattle.regex.proofs.OneReading.{tree-is}
-use Rattle.rule.specs.RuleAnswer.{RuleAnswer, refusal, acceptance, values, unused}
-use Rattle.rule.specs.RuleAnswer.{isRuleByte, foreignAt, sized, afterScan, ruleAnswer, ruleValues}
+use Rattle.rule.specs.RuleAnswer.{RuleAnswer, isRuleByte, refusal, acceptance, values, ruleValues, unused}
+use Rattle.rule.specs.RuleComputed.{foreignAt, sized, afterScan, ruleAnswer}
 use Rattle.rule.specs.RuleMeaning.{FitsLength, Legal, RuleMeaning, empty-text, long-text, foreign-byte, no-sentence}
 use Rattle.rule.specs.RuleMeaning.{many-nodes, many-specials, accepted}
 use Rattle.rule.specs.declared.Answer.{Answer}
@@ -31,7 +31,7 @@ sized-means : (s : List ℕ) → Legal s → (t : Tree) → Reads Alt 0 s t → 
 sized-means s a t r =
     choose (RuleMeaning s) (ltb 64 (size t)) (λ e. many-nodes a r (ltb-true _ _ e))
     (λ e. choose (RuleMeaning s) (ltb 7 (specials t)) (λ f. many-specials a r (ltb-false _ _ e) (ltb-true _ _ f))
-    (λ f. accepted a r (ltb-false _ _ e) (ltb-false _ _ f)))
+    (λ f. accepted (record { legal = a; reads = r; nodes = ltb-false _ _ e; special = ltb-false _ _ f })))
 
 read-means : (s : List ℕ) → Legal s → (x : ScanResult) → Means s x → RuleMeaning s (afterScan s x)
 read-means s a (Complete m k) w =
@@ -109,7 +109,8 @@ answer-is {s} (foreign-byte {n = n} a h l b) =
 answer-is {s} (no-sentence {n = n} a none l) = sym (past s a ∙ broken-is s n none l (scanned s) (scan-right s))
 answer-is (many-nodes {t = t} a r h) = sym (of-reading a r ∙ simp (lt-ltb 64 (size t) h))
 answer-is (many-specials {t = t} a r h g) = sym (of-reading a r ∙ simp (le-ltb 64 (size t) h, lt-ltb 7 (specials t) g))
-answer-is (accepted {t = t} a r h g) = sym (of-reading a r ∙ simp (le-ltb 64 (size t) h, le-ltb 7 (specials t) g))
+answer-is (accepted {t = t} p) =
+    sym (of-reading (p .legal) (p .reads) ∙ simp (le-ltb 64 (size t) (p .nodes), le-ltb 7 (specials t) (p .special)))
 
 -- ---- what the proofs of the functions cite
 -- the answer of the code

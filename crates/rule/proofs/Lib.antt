@@ -1,5 +1,6 @@
 -- What the reader's answer means.
 pub mod Answered
+pub mod Rows
 mod Edges
 -- Laws that the proofs of its functions cite.
 mod ScanLaws

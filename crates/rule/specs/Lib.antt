@@ -1,5 +1,6 @@
--- What the rule reader answers, as values and computed, and what the answer says by the grammar.
+-- What the rule reader answers, as values, by the grammar, and computed.
 pub mod RuleAnswer
 pub mod RuleMeaning
+pub mod RuleComputed
 -- What its private functions do.
 pub mod Reader

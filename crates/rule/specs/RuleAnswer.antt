@@ -1,20 +1,19 @@
--- What the rule reader answers of a text, in the values of document 01. Assumes nothing.
+-- The values of the rule reader's answers, by document 01. Assumes nothing.
 use Prim.Native.Nat.{ℕ, _-_}
 use mathlib.Core.List.{List, _++_}
-use mathlib.Core.Bool.{Bool, cond, _||_}
-use lib.Dec.{eqb, ltb}
-use lib.ListN.{length, replicate}
+use mathlib.Core.Bool.{Bool, _||_}
+use lib.Dec.{eqb}
+use lib.ListN.{replicate}
 use Rattle.event.specs.Event.{isEvent}
-use Rattle.event.specs.Leading.{leading}
 use Rattle.regex.specs.Tree.{Tree, size, specials, records}
-use Rattle.regex.specs.TreeOf.{treeOf}
-use Rattle.regex.specs.Scan.{scanned}
 use Rattle.regex.specs.declared.Kind.the-variants.{Empty}
 use Rattle.regex.specs.declared.Node.{Node}
-use Rattle.regex.specs.declared.ScanResult.{ScanResult}
-use Rattle.regex.specs.declared.ScanResult.the-variants.{Complete, Broken}
+use Rattle.verdict.specs.Verdicts as verdict
+use Rattle.verdict.specs.declared.Verdict.{Verdict}
 use Rattle.rule.specs.declared.Outcome.{Outcome}
 use Rattle.rule.specs.declared.Outcome.the-variants as outcome
+use Rattle.rule.specs.declared.Refusal.{Refusal}
+use Rattle.rule.specs.declared.Refusal.the-variants as why
 
 -- 01: "An answer carries number (0 if accepted), place, found and count; the rule reader's also m, k and the m records".
 -- The code's answer has 64 records.
@@ -47,32 +46,34 @@ refusal number place = values number place 0 0 (unused 64)
 abbrev pub acceptance : Tree → RuleAnswer
 acceptance t = values 0 0 (size t) (specials t) (records t ++ unused (64 - size t))
 
--- the offset of the first byte outside the list; the length where there is none
-abbrev pub foreignAt : List ℕ → ℕ
-foreignAt s = leading isRuleByte s
+-- 01: number and place of each refusal of the row "Rule text"
+abbrev pub refusalVerdict : Refusal → Verdict
+refusalVerdict why.EmptyText = verdict.refused 1 0
+refusalVerdict why.LongText = verdict.refused 2 0
+refusalVerdict (why.ForeignByte n) = verdict.refused 3 n
+refusalVerdict (why.NoSentence n) = verdict.refused 4 n
+refusalVerdict why.ManyNodes = verdict.refused 5 0
+refusalVerdict why.ManySpecials = verdict.refused 6 0
 
--- 01, numbers 5 and 6: "m over 64", "k over 7"
-abbrev pub sized : Tree → RuleAnswer
-sized t = cond (ltb 64 (size t)) (refusal 5 0) (cond (ltb 7 (specials t)) (refusal 6 0) (acceptance t))
+-- number, place, found and count of what the code answers
+abbrev pub outcomeVerdict : Outcome → Verdict
+outcomeVerdict (outcome.Accepted m k) = verdict.accepted 0 0
+outcomeVerdict (outcome.Refused r) = refusalVerdict r
 
--- 01, number 4: "not a sentence"
-abbrev pub afterScan : List ℕ → ScanResult → RuleAnswer
-afterScan s (Complete m k) = sized (treeOf s)
-afterScan s (Broken n) = refusal 4 n
+-- a verdict, with m, k and the records
+abbrev pub told : Verdict → ℕ → ℕ → List Node → RuleAnswer
+told v m k ns =
+    record { number = v .number; place = v .place; found = v .found; count = v .count; m = m; k = k; nodes = ns }
 
--- 01, numbers 1, 2 and 3: "empty", "over 255 bytes", "a byte outside the list"
-unfoldable pub ruleAnswer : List ℕ → RuleAnswer
-ruleAnswer s =
-    cond (eqb (length s) 0) (refusal 1 0)
-    (cond (ltb 255 (length s)) (refusal 2 0)
-    (cond (ltb (foreignAt s) (length s)) (refusal 3 (foreignAt s)) (afterScan s (scanned s))))
+-- m and k of what the code answers
+abbrev pub nodeCount : Outcome → ℕ
+nodeCount (outcome.Accepted m k) = m
+nodeCount (outcome.Refused r) = 0
 
--- the values of an answer of the code: its outcome and its 64 records
+abbrev pub specialCount : Outcome → ℕ
+specialCount (outcome.Accepted m k) = k
+specialCount (outcome.Refused r) = 0
+
+-- the values of what the code answers: its outcome and its 64 records
 abbrev pub ruleValues : Outcome → List Node → RuleAnswer
-ruleValues (outcome.Accepted m k) ns = values 0 0 m k ns
-ruleValues outcome.EmptyText ns = values 1 0 0 0 ns
-ruleValues outcome.LongText ns = values 2 0 0 0 ns
-ruleValues (outcome.ForeignByte n) ns = values 3 n 0 0 ns
-ruleValues (outcome.NoSentence n) ns = values 4 n 0 0 ns
-ruleValues outcome.ManyNodes ns = values 5 0 0 0 ns
-ruleValues outcome.ManySpecials ns = values 6 0 0 0 ns
+ruleValues o ns = told (outcomeVerdict o) (nodeCount o) (specialCount o) ns

@@ -22,6 +22,13 @@ pub record Legal (s : List ℕ) : Type 0 where
   pub fits : FitsLength s
   pub listed : Listed s (length s)
 
+-- the text passes the row, and the grammar reads it as the tree t
+pub record Passed (s : List ℕ) (t : Tree) : Type 0 where
+  pub legal : Legal s
+  pub reads : Reads Alt 0 s t
+  pub nodes : size t ≤ 64
+  pub special : specials t ≤ 7
+
 -- one constructor for each number: what holds of the text, and the whole answer
 pub data RuleMeaning (s : List ℕ) : RuleAnswer → Type 0 where
   -- "1: empty."
@@ -36,5 +43,5 @@ pub data RuleMeaning (s : List ℕ) : RuleAnswer → Type 0 where
   many-nodes : {t : Tree} → Legal s → Reads Alt 0 s t → 64 < size t → RuleMeaning s (refusal 5 0)
   -- "6: k over 7"
   many-specials : {t : Tree} → Legal s → Reads Alt 0 s t → size t ≤ 64 → 7 < specials t → RuleMeaning s (refusal 6 0)
-  -- accepted: the grammar reads the text as a tree t, and m, k and the records are t's
-  accepted : {t : Tree} → Legal s → Reads Alt 0 s t → size t ≤ 64 → specials t ≤ 7 → RuleMeaning s (acceptance t)
+  -- accepted: m, k and the records are those of the tree that the text is read as
+  accepted : {t : Tree} → Passed s t → RuleMeaning s (acceptance t)

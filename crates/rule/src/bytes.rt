@@ -1,7 +1,8 @@
 // The bytes of a rule text.
 ghost use mathlib.Core.Path.{_≡_};
 ghost use Rattle.regex.specs.Bytes.{isLeaf, isStart};
-ghost use Rattle.rule.specs.RuleAnswer.{isRuleByte, foreignAt};
+ghost use Rattle.rule.specs.RuleAnswer.{isRuleByte};
+ghost use Rattle.rule.specs.RuleComputed.{foreignAt};
 
 // `0`, `1` or a letter.
 pub fn is_leaf(b: u8) -> bool

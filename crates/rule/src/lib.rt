@@ -7,13 +7,16 @@ mod scan;
 use regex::Kind;
 use regex::Node;
 use regex::ScanResult;
+use verdict::Verdict;
 ghost use mathlib.Core.Path.{_≡_};
 ghost use Prim.Native.Nat.{_≤_};
 ghost use lib.ListN.{length};
 ghost use Rattle.regex.specs.Scan.{scanned};
 ghost use Rattle.regex.specs.TreeOf.{treeOf};
 ghost use Rattle.regex.specs.declared.ScanResult.the-variants.{Complete};
-ghost use Rattle.rule.specs.RuleAnswer.{ruleValues, ruleAnswer, sized, unused};
+ghost use Rattle.rule.specs.declared.Outcome.the-variants.{Refused};
+ghost use Rattle.rule.specs.RuleAnswer.{ruleValues, refusalVerdict, outcomeVerdict, unused};
+ghost use Rattle.rule.specs.RuleComputed.{ruleAnswer, sized};
 ghost use Rattle.rule.specs.RuleMeaning.{RuleMeaning};
 
 // The most that a rule may have.
@@ -23,15 +26,20 @@ const MOST_NODES: usize = 64;
 
 const MOST_SPECIALS: usize = 7;
 
-// What a text is: accepted with m and k, or refused, with the place where the refusal names one.
-pub enum Outcome {
-    Accepted(usize, usize),
+// Why a text is refused, with the place where the refusal names one.
+pub enum Refusal {
     EmptyText,
     LongText,
     ForeignByte(usize),
     NoSentence(usize),
     ManyNodes,
     ManySpecials,
+}
+
+// What a text is: accepted with m and k, or refused.
+pub enum Outcome {
+    Accepted(usize, usize),
+    Refused(Refusal),
 }
 
 // The reader's answer: on acceptance the first m records are the nodes', all others are `0` at offset 0.
@@ -46,17 +54,17 @@ pub fn read(text: &[u8]) -> Answer
     ensures meaning { λ r. ⌜ RuleMeaning (now (text .entry)) (ruleValues (r .outcome) (r .nodes)) ⌝ }
 {
     if text.len() == 0 {
-        return refused(Outcome::EmptyText);
+        return refused(Refusal::EmptyText);
     }
     if MOST_BYTES < text.len() {
-        return refused(Outcome::LongText);
+        return refused(Refusal::LongText);
     }
     let foreign = bytes::find_foreign(text);
     if foreign < text.len() {
-        return refused(Outcome::ForeignByte(foreign));
+        return refused(Refusal::ForeignByte(foreign));
     }
     match scan::scan(text) {
-        ScanResult::Broken(place) => refused(Outcome::NoSentence(place)),
+        ScanResult::Broken(place) => refused(Refusal::NoSentence(place)),
         ScanResult::Complete(m, k) => read_sentence(text, m, k),
     }
 }
@@ -67,10 +75,10 @@ fn read_sentence(text: &[u8], m: usize, k: usize) -> Answer
     ensures { λ r. ⌜ ruleValues (r .outcome) (r .nodes) ≡ sized (treeOf (now (text .entry))) ⌝ }
 {
     if MOST_NODES < m {
-        return refused(Outcome::ManyNodes);
+        return refused(Refusal::ManyNodes);
     }
     if MOST_SPECIALS < k {
-        return refused(Outcome::ManySpecials);
+        return refused(Refusal::ManySpecials);
     }
     Answer {
         outcome: Outcome::Accepted(m, k),
@@ -78,16 +86,40 @@ fn read_sentence(text: &[u8], m: usize, k: usize) -> Answer
     }
 }
 
-// A refusal, in which no record is a node's.
-fn refused(outcome: Outcome) -> Answer
-    ensures { λ r. ⌜ r ≡ record { outcome = outcome; nodes = unused 64 } ⌝ }
+// The answer to a refused text, in which no record is a node's.
+fn refused(refusal: Refusal) -> Answer
+    ensures { λ r. ⌜ ruleValues (r .outcome) (r .nodes) ≡ ruleValues (Refused refusal) (unused 64) ⌝ }
 {
     let none = Node {
         offset: 0,
         kind: Kind::Empty,
     };
     Answer {
-        outcome: outcome,
+        outcome: Outcome::Refused(refusal),
         nodes: [none; 64],
+    }
+}
+
+// Number and place of each refusal.
+pub fn refusal_verdict(refusal: Refusal) -> Verdict
+    ensures { λ r. ⌜ r ≡ refusalVerdict refusal ⌝ }
+{
+    match refusal {
+        Refusal::EmptyText => verdict::refusal(1, 0),
+        Refusal::LongText => verdict::refusal(2, 0),
+        Refusal::ForeignByte(place) => verdict::refusal(3, place as u64),
+        Refusal::NoSentence(place) => verdict::refusal(4, place as u64),
+        Refusal::ManyNodes => verdict::refusal(5, 0),
+        Refusal::ManySpecials => verdict::refusal(6, 0),
+    }
+}
+
+// Number, place, found and count of an answer.
+pub fn outcome_verdict(outcome: Outcome) -> Verdict
+    ensures { λ r. ⌜ r ≡ outcomeVerdict outcome ⌝ }
+{
+    match outcome {
+        Outcome::Accepted(m, k) => verdict::acceptance(0, 0),
+        Outcome::Refused(refusal) => refusal_verdict(refusal),
     }
 }

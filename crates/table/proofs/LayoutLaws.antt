@@ -9,12 +9,14 @@ use lib.Dec.{T}
 use lib.ListN.{length, getD, take, drop, length-drop}
 use lib.Seq.{length-take-le, getD-take, getD-drop, drop-drop, take-add, ext-getD}
 use Rattle.bits.specs.Bit.{hasBit, bitAt}
-use Rattle.bits.proofs.Packed.{Small, packed-is, run-small}
+use Rattle.bits.specs.Runs.{Small}
+use Rattle.bits.proofs.Packed.{packed-is, run-small}
 use Rattle.event.specs.Event.{Word}
 use Rattle.event.proofs.Tests.{T-of, of-T, same-test}
 use Rattle.regex.specs.Tree.{Tree}
 use Rattle.work.specs.Span.{Obeys}
-use Rattle.work.specs.Table.{obeys, position, startOf, endOf, blockLength, HoldsBlock, block, blocks}
+use Rattle.work.specs.Table.{position, blockLength, HoldsBlock}
+use Rattle.work.specs.TableComputed.{obeys, startOf, endOf, block, blocks}
 use Rattle.work.proofs.TableLaws.{obeys-eq, block-length, block-bit, holds}
 use Rattle.table.specs.declared.Block.{Block}
 use Rattle.table.specs.Layout.{blockAt, spanBit, rowBit, InBlock, SpanAt}

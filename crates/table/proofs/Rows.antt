@@ -8,7 +8,8 @@ use native.Mathlib.Omega.{arith}
 use lib.ListN.{length, getD, take, drop, replicate, length-append, length-drop, length-replicate}
 use lib.Seq.{length-take-le}
 use borrow.Rule.Slice.PartMut.{midOf, postOf, putMid, put-same, same-len-mid}
-use Rattle.bits.specs.Bit.{hasBit, bitAt, Merged, Adds}
+use Rattle.bits.specs.Bit.{hasBit, bitAt}
+use Rattle.bits.specs.Runs.{Merged, Adds}
 use Rattle.bits.proofs.Digits.{below-or-not}
 use Rattle.bits.proofs.Laws.{merged-adds, adds-then, adds-as, zeros-bit}
 use Rattle.bits.proofs.Packed.{bit-front, bit-behind}

@@ -3,7 +3,8 @@ ghost use mathlib.Core.Path.{_≡_};
 ghost use mathlib.Core.Bool.{true};
 ghost use Prim.Native.Nat.{ℕ, _<_, _≤_};
 ghost use lib.ListN.{length};
-ghost use Rattle.bits.specs.Bit.{bitAt, Adds};
+ghost use Rattle.bits.specs.Bit.{bitAt};
+ghost use Rattle.bits.specs.Runs.{Adds};
 ghost use Rattle.work.specs.Table.{blockLength};
 ghost use Rattle.table.specs.Layout.{Lies, rowBit, RowSpan, Cleared};
 

@@ -1,2 +1,2 @@
--- Laws for those who make an answer of a verdict.
-pub mod VerdictLaws
+-- What holds of every refusal by a reader.
+pub mod ByReader

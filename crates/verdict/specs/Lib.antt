@@ -1,2 +1,2 @@
 -- What a verdict says.
-pub mod Says
+pub mod Verdicts

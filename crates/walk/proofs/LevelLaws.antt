@@ -6,7 +6,8 @@ use mathlib.Core.List.{List}
 use Prim.Native.Nat.{ℕ, _+_, _-_, _*_, _/_, _%_, _≤_, _<_}
 use native.Mathlib.Omega.{arith}
 use lib.ListN.{length, getD, replicate}
-use Rattle.bits.specs.Bit.{bitAt, tallyBelow, Adds}
+use Rattle.bits.specs.Bit.{bitAt}
+use Rattle.bits.specs.Runs.{tallyBelow, Adds}
 use Rattle.bits.proofs.Digits.{same-or-not}
 use Rattle.bits.proofs.Laws.{or-left, or-right, or-cases, zeros-bit}
 use Rattle.bits.proofs.Tally.{tally-same}

@@ -6,7 +6,8 @@ use mathlib.Core.List.{List}
 use Prim.Native.Nat.{ℕ, _+_, _-_, _*_, _/_, _<_}
 use native.Mathlib.Omega.{arith}
 use lib.ListN.{length, replicate}
-use Rattle.bits.specs.Bit.{bitAt, Adds}
+use Rattle.bits.specs.Bit.{bitAt}
+use Rattle.bits.specs.Runs.{Adds}
 use Rattle.bits.proofs.Laws.{zeros-bit}
 use Rattle.moves.specs.Reached.{start}
 use Rattle.moves.proofs.Paths.{reached-from}

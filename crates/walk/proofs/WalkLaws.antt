@@ -6,7 +6,8 @@ use mathlib.Core.List.{List}
 use Prim.Native.Nat.{ℕ, _+_, _-_, _*_, _/_, _%_, _≤_, _<_}
 use native.Mathlib.Omega.{arith}
 use lib.ListN.{length, getD, replicate}
-use Rattle.bits.specs.Bit.{bitAt, tallyBelow}
+use Rattle.bits.specs.Bit.{bitAt}
+use Rattle.bits.specs.Runs.{tallyBelow}
 use Rattle.bits.proofs.Digits.{below-or-not, same-or-not}
 use Rattle.bits.proofs.Laws.{zeros-bit}
 use Rattle.bits.proofs.Tally.{tally-same, tally-none, tally-add, tally-up}

@@ -5,7 +5,8 @@ use mathlib.Core.Logic.{_⊎_}
 use mathlib.Core.List.{List}
 use mathlib.Core.Bool.{Bool, true, false}
 use lib.ListN.{length, getD}
-use Rattle.bits.specs.Bit.{bitAt, tallyBelow}
+use Rattle.bits.specs.Bit.{bitAt}
+use Rattle.bits.specs.Runs.{tallyBelow}
 use Rattle.moves.specs.Reached.{Reached}
 use Rattle.marks.specs.declared.Target.{Target}
 use Rattle.marks.specs.Marks.{StartsAt}

@@ -11,7 +11,7 @@ use Rattle.regex.specs.Accept.{accepts}
 use Rattle.regex.specs.Parse.{parse}
 use Rattle.regex.specs.TreeOf.{treeOf}
 use Rattle.regex.specs.Scan.{scanFrom, isSentence}
-use Rattle.work.specs.Spans.{obeying}
+use Rattle.work.specs.SpansComputed.{obeying}
 use Rattle.work.specs.Count.{fullCount}
 use Rattle.work.specs.KnownDays.{Day, days}
 

@@ -6,7 +6,7 @@ use Prim.Native.Nat.{ℕ, zero, suc, _+_, _*_, _-_, _/_, _%_, _≤_}
 use native.Mathlib.Omega.{arith}
 use lib.ListN.{length}
 use lib.Seq.{slice}
-use Rattle.bits.specs.Bit.{indicator, tallyBelow}
+use Rattle.bits.specs.Runs.{indicator, tallyBelow}
 use Rattle.bits.proofs.Tally.{tally-same, tally-none, tally-add}
 use Rattle.bits.proofs.Packed.{run-ones}
 use Rattle.event.specs.Event.{Word}
@@ -16,8 +16,10 @@ use Rattle.regex.specs.Accept.{accepts}
 use Rattle.regex.proofs.LangDecided.{decides}
 use Rattle.work.specs.Span.{Obeys}
 use Rattle.work.specs.SizeOf.{SizeOf}
-use Rattle.work.specs.Spans.{Spans, listIf, fromStart, fromStarts, obeying}
-use Rattle.work.specs.Table.{obeys, startOf, endOf, blockLength, block, found}
+use Rattle.work.specs.Spans.{Spans}
+use Rattle.work.specs.SpansComputed.{listIf, fromStart, fromStarts, obeying}
+use Rattle.work.specs.Table.{blockLength}
+use Rattle.work.specs.TableComputed.{obeys, startOf, endOf, block, found}
 use Rattle.work.proofs.Listed.{listed-size}
 use Rattle.work.proofs.TableLaws.{obeys-eq}
 

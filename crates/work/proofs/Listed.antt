@@ -15,7 +15,8 @@ use Rattle.regex.specs.Accept.{accepts}
 use Rattle.regex.proofs.LangDecided.{decides}
 use Rattle.work.specs.Span.{Obeys}
 use Rattle.work.specs.SizeOf.{Once, SizeOf}
-use Rattle.work.specs.Spans.{Spans, listIf, fromStart, fromStarts, obeying, Before, InOrder}
+use Rattle.work.specs.Spans.{Spans, Before, InOrder}
+use Rattle.work.specs.SpansComputed.{listIf, fromStart, fromStarts, obeying}
 
 list-in : (b : Bool) (i j : ℕ) (l : Spans) (p : ℕ × ℕ) → List·Memᴰ p (listIf b i j l) → (T b × (p ≡ (i, j))) ⊎ List·Memᴰ p l
 list-in true i j l p m = ⊎-elim (λ e. inl (tt, e)) (λ k. inr k) (List·Memᴰ·cases-cons m)

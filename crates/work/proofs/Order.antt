@@ -12,7 +12,8 @@ use Rattle.regex.specs.Grammar.{Level, Alt, Reads, alt-conj, alt-bar, conj-seq,
 use Rattle.regex.specs.Grammar.{atom-letter, atom-empty, atom-epsilon, atom-group}
 use Rattle.work.specs.Walk.{Part, itself, union-left, union-right, intersection-left, intersection-right, concatenation-left}
 use Rattle.work.specs.Walk.{concatenation-right, complement-inner, star-inner}
-use Rattle.work.specs.Table.{SpecialPart, specialParts, Rising}
+use Rattle.work.specs.Table.{SpecialPart, Rising, Members}
+use Rattle.work.specs.TableComputed.{specialParts}
 
 -- ---- rising byte offset
 -- the offsets rise, from lo on and below hi
@@ -115,9 +116,6 @@ above : (lo : ℕ) (l : List Tree) (u : Tree) → Rising lo l → List·Memᴰ u
 above lo [] u r m = absurd (List·Memᴰ·not-nil m)
 above lo (t ∷ l) u r m =
     ⊎-elim (λ (e : u ≡ t). rw e (r .0)) (λ k. let h = above (suc (offset t)) l u (r .1) k in omega (arith, r .0)) (List·Memᴰ·cases-cons m)
-
-abbrev Members : List Tree → List Tree → Type 0
-Members k l = (u : Tree) → List·Memᴰ u k → List·Memᴰ u l
 
 -- the first of a rising list stands in no other place, so what is left has the same members
 rest-members : (lo : ℕ) (t : Tree) (k l : List Tree) → Rising lo (t ∷ k) → Members (t ∷ k) (t ∷ l) → Members k l

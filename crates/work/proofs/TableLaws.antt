@@ -9,14 +9,16 @@ use lib.Dec.{T, leb, leb→le, le→leb, lit<}
 use lib.ListN.{length, getD, length-append}
 use lib.Seq.{slice}
 use Rattle.bits.specs.Bit.{bitAt}
-use Rattle.bits.proofs.Packed.{run-length, run-bit, bit-front, bit-behind, Small, run-small, append-small}
+use Rattle.bits.specs.Runs.{Small}
+use Rattle.bits.proofs.Packed.{run-length, run-bit, bit-front, bit-behind, run-small, append-small}
 use Rattle.event.specs.Event.{Word}
 use Rattle.event.proofs.Tests.{and-split, and-join, T-of, of-T}
 use Rattle.regex.specs.Tree.{Tree, empty, epsilon, letter, union, intersection, concatenation, complement, star, specials}
 use Rattle.regex.specs.Accept.{accepts}
 use Rattle.regex.proofs.LangDecided.{decides}
 use Rattle.work.specs.Span.{Obeys}
-use Rattle.work.specs.Table.{obeys, position, startOf, endOf, blockLength, HoldsBlock, block, specialParts, blocks, table, needOf}
+use Rattle.work.specs.Table.{position, blockLength, HoldsBlock, needOf}
+use Rattle.work.specs.TableComputed.{obeys, startOf, endOf, block, specialParts, blocks, table}
 
 pub obeys-eq : (w : Word) (t : Tree) (i j : ℕ) → T (obeys w t i j) ↔ Obeys w t i j
 unfolding obeys

@@ -8,11 +8,13 @@ use lib.Dec.{T}
 use lib.ListN.{length, getD, List·getD-append}
 use lib.Seq.{ext-getD, getD-append-add}
 use Rattle.bits.specs.Bit.{bitAt}
-use Rattle.bits.proofs.Packed.{Small, packed-is, run-at}
+use Rattle.bits.specs.Runs.{Small}
+use Rattle.bits.proofs.Packed.{packed-is, run-at}
 use Rattle.event.specs.Event.{Word}
 use Rattle.event.proofs.Tests.{T-of, of-T, same-test}
 use Rattle.regex.specs.Tree.{Tree, specials}
-use Rattle.work.specs.Table.{obeys, position, startOf, endOf, blockLength, HoldsBlock, block, specialParts, blocks, table, needOf}
+use Rattle.work.specs.Table.{position, blockLength, HoldsBlock, needOf}
+use Rattle.work.specs.TableComputed.{obeys, startOf, endOf, block, specialParts, blocks, table}
 use Rattle.work.proofs.TableLaws.{obeys-eq, block-length, parts-length, table-length}
 
 -- number q of block number b

@@ -11,7 +11,7 @@ use Rattle.regex.specs.Tree.{Tree, empty, epsilon, letter, union, intersection,
 use Rattle.event.specs.Event.{Word}
 use Rattle.regex.specs.Accept.{accepts}
 use Rattle.work.specs.Count.{sumTo, tallyTo, exits, atRoot, belowRoot, places, walks, specialWalks, fullCount}
-use Rattle.bits.specs.Bit.{indicator}
+use Rattle.bits.specs.Runs.{indicator}
 use Rattle.event.proofs.Tests.{and-split}
 use Rattle.work.proofs.Decided.{any-found}
 

@@ -5,7 +5,7 @@ use Prim.Native.Nat.{ℕ, zero, suc, _+_}
 use lib.Dec.{eqb}
 use lib.ListN.{length}
 use lib.Seq.{slice}
-use Rattle.bits.specs.Bit.{indicator}
+use Rattle.bits.specs.Runs.{indicator}
 use Rattle.event.specs.Event.{Word}
 use Rattle.regex.specs.Tree.{Tree, empty, epsilon, letter, union, intersection, concatenation, complement, star}
 use Rattle.regex.specs.Accept.{accepts}

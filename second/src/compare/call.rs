@@ -2,8 +2,13 @@
 
 use std::fmt;
 
+use super::trouble::Trouble;
+
 /// How many numbers the nodes' buffer must have, however few of them a rule takes.
 pub const NODES: usize = 128;
+
+/// What a call returns that has no room for its answer.
+pub const UNANSWERED: u64 = u64::MAX;
 
 /// A call with all that is lent to it.
 pub enum Call<'a> {
@@ -32,8 +37,9 @@ pub enum Call<'a> {
     },
 }
 
-/// A library that does the calls; the text names the case, for messages of a call that dies.
-pub type Library<'a> = dyn Fn(&str, Call<'_>) + 'a;
+/// A library that does the calls and gives what each returns; the text names the case, for messages
+/// of a call that dies.
+pub type Library<'a> = dyn Fn(&str, Call<'_>) -> u64 + 'a;
 
 /// Whose answers are compared.
 #[derive(Clone, Copy, Debug, PartialEq, Eq, PartialOrd, Ord)]
@@ -43,6 +49,37 @@ pub enum Callee {
     Judge,
     RunJob,
     Program,
+    /// The program while something happens to its standard input or output.
+    Troubled,
+}
+
+/// What a case is counted as.
+#[derive(Clone, Copy, Debug, PartialEq, Eq, PartialOrd, Ord)]
+pub enum Kind {
+    /// A buffer is too short for any answer.
+    Unanswered,
+    /// This number should come.
+    Number(u32),
+    /// This happens to the program.
+    Trouble(Trouble),
+}
+
+impl Kind {
+    /// The kind of a call that should give such a number, or none where it cannot answer.
+    pub fn of(number: Option<u32>) -> Self {
+        number.map_or(Kind::Unanswered, Kind::Number)
+    }
+}
+
+impl fmt::Display for Kind {
+    fn fmt(&self, formatter: &mut fmt::Formatter) -> fmt::Result {
+        match self {
+            Kind::Unanswered => formatter.pad("a buffer too short to answer"),
+            Kind::Number(0) => formatter.pad("accepted"),
+            Kind::Number(number) => formatter.pad(&format!("refusal {number}")),
+            Kind::Trouble(trouble) => trouble.fmt(formatter),
+        }
+    }
 }
 
 impl Callee {
@@ -60,12 +97,12 @@ impl Callee {
             Callee::ReadRule => 6,
             Callee::ReadDay | Callee::RunJob => 5,
             Callee::Judge => 4,
-            Callee::Program => 0,
+            Callee::Program | Callee::Troubled => 0,
         }
     }
 
-    /// Every outcome there can be: the numbers, and none where a buffer is too short to answer.
-    pub fn outcomes(self) -> Vec<Option<u32>> {
+    /// Every kind of case there can be.
+    pub fn kinds(self) -> Vec<Kind> {
         let numbers: Vec<u32> = match self {
             Callee::ReadRule => (0..=6).collect(),
             Callee::ReadDay => [0].into_iter().chain(11..=15).collect(),
@@ -73,9 +110,11 @@ impl Callee {
             Callee::RunJob => (0..=6).chain(11..=16).collect(),
             // The program's own buffer takes every text, so it never gives 15.
             Callee::Program => (0..=6).chain(11..=14).chain([16]).collect(),
+            Callee::Troubled => return Trouble::ALL.map(Kind::Trouble).to_vec(),
         };
-        let unanswered = (self != Callee::Program).then_some(None);
-        numbers.into_iter().map(Some).chain(unanswered).collect()
+        let unanswered = (self != Callee::Program).then_some(Kind::Unanswered);
+        let numbers = numbers.into_iter().map(Kind::Number);
+        numbers.chain(unanswered).collect()
     }
 }
 
@@ -87,6 +126,7 @@ impl fmt::Display for Callee {
             Callee::Judge => "wuz_judge",
             Callee::RunJob => "wuz_run_job",
             Callee::Program => "the program",
+            Callee::Troubled => "the program in trouble",
         })
     }
 }

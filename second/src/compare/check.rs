@@ -1,6 +1,7 @@
-//! One call of the library, compared with the second program's to the last lent element.
+//! One call of the library, compared with the second program's: the number that it returns, and all
+//! that it is lent to the last element.
 
-use super::call::{Call, Callee, Library};
+use super::call::{Call, Callee, Kind, Library, UNANSWERED};
 use super::lent::{Difference, Dirt, Lent, Side};
 use super::reference;
 use super::request::{Asked, Request};
@@ -8,20 +9,40 @@ use super::request::{Asked, Request};
 /// What came of one comparison.
 pub struct Checked {
     pub callee: Callee,
-    /// The number that should have come; none where a buffer is too short for any answer.
-    pub number: Option<u32>,
+    pub kind: Kind,
     pub difference: Option<Difference>,
 }
 
-/// Asks the library and the second program the same, and compares all that was lent.
+/// Asks the library and the second program the same, and compares all that was lent and returned.
 pub fn check(library: &Library, case: &str, request: &Request) -> Checked {
     let mut buffers = Buffers::new(request);
-    library(case, buffers.call(request, Side::Library));
+    let returned = library(case, buffers.call(request, Side::Library));
     let number = reference::run(buffers.call(request, Side::Second));
+    // The answer is looked at first, because it says the most.
+    let difference = buffers.answer.difference();
+    let expected = reference::returned(number);
+    let difference = difference.or_else(|| returned_difference(expected, returned));
     Checked {
         callee: request.asked.callee(),
-        number,
-        difference: buffers.difference(),
+        kind: Kind::of(number),
+        difference: difference.or_else(|| buffers.difference()),
+    }
+}
+
+/// What is wrong with the number that a call returned.
+fn returned_difference(expected: u64, came: u64) -> Option<Difference> {
+    (came != expected).then(|| Difference {
+        place: "the number returned".to_string(),
+        expected: shown_returned(expected),
+        came: shown_returned(came),
+    })
+}
+
+/// A returned number as text.
+fn shown_returned(number: u64) -> String {
+    match number {
+        UNANSWERED => format!("{number}, WUZ_UNANSWERED"),
+        _ => number.to_string(),
     }
 }
 
@@ -117,11 +138,10 @@ impl Buffers {
         }
     }
 
-    /// The first difference; the answer is looked at first, because it says the most.
+    /// The first difference outside the answer.
     fn difference(&self) -> Option<Difference> {
-        let answer = self.answer.difference();
-        answer
-            .or_else(|| self.numbers.difference())
+        let numbers = self.numbers.difference();
+        numbers
             .or_else(|| self.bytes.difference())
             .or_else(|| self.seconds.difference())
             .or_else(|| self.first.difference())

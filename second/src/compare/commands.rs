@@ -10,7 +10,7 @@ use super::program::{self, Input};
 use super::progress::Progress;
 use super::random_requests::{lend, source, with_out, Draws};
 use super::run::{Label, Run};
-use super::{edge_requests, job_edges};
+use super::{edge_requests, job_edges, trouble};
 
 /// From so many random requests on, every number has to come.
 const MANY_REQUESTS: usize = 20_000;
@@ -97,7 +97,8 @@ pub fn library(
     run.finish(required)
 }
 
-/// Compares whole jobs, each through the program and the library; tells whether all is well.
+/// Compares the program in trouble, and then whole jobs, each through the program and the library;
+/// tells whether all is well.
 pub fn jobs(
     library: &Library,
     program: &OsStr,
@@ -108,7 +109,12 @@ pub fn jobs(
     let progress = Progress::start();
     let (edges, draws) = (job_edges::jobs(), Draws::new());
     let mut run = Run::new(output);
+    let again = format!("{command} {} 0", cases.seed);
+    troubles(&mut run, program, &again, &progress)?;
     for number in cases.numbers() {
+        if run.is_over() {
+            break;
+        }
         progress.doing(cases.doing("jobs", number));
         let mut random = source(cases.seed, number);
         let edge = number.checked_sub(1).and_then(|index| edges.get(index));
@@ -120,13 +126,28 @@ pub fn jobs(
         let by_program = program::check(program, &input);
         let by_library = check(library, &label.name, &request);
         run.add(&label, &[(by_program, &input), (by_library, &request)])?;
+    }
+    let required: &[Callee] = match cases.count {
+        MANY_JOBS.. => &[Callee::Troubled, Callee::RunJob, Callee::Program],
+        _ => &[Callee::Troubled],
+    };
+    run.finish(required)
+}
+
+/// Compares what the program does in trouble; the command shows it again.
+fn troubles(run: &mut Run, program: &OsStr, again: &str, progress: &Progress) -> io::Result<()> {
+    let cases = trouble::cases();
+    for (index, case) in cases.iter().enumerate() {
         if run.is_over() {
             break;
         }
+        let (all, what) = (cases.len(), case.trouble);
+        progress.doing(format!("trouble: {index} of {all} done, at {what}"));
+        let label = Label {
+            name: format!("case {} of the program in trouble", index + 1),
+            again: again.to_string(),
+        };
+        run.add(&label, &[(trouble::check(program, case), case)])?;
     }
-    let required: &[Callee] = match cases.count {
-        MANY_JOBS.. => &[Callee::RunJob, Callee::Program],
-        _ => &[],
-    };
-    run.finish(required)
+    Ok(())
 }

@@ -18,4 +18,8 @@ pub mod random_requests;
 pub mod reference;
 pub mod request;
 pub mod run;
+pub mod running;
 pub mod tally;
+pub mod trouble;
+pub mod troubled_input;
+pub mod troubled_output;

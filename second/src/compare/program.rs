@@ -2,31 +2,22 @@
 
 use std::ffi::OsStr;
 use std::fmt;
-use std::io::{self, ErrorKind, PipeReader, PipeWriter, Read, Write};
+use std::io::{self, ErrorKind, PipeWriter, Read, Write};
 use std::os::unix::process::ExitStatusExt;
-use std::process::{Child, ChildStdout, Command, ExitStatus, Stdio};
+use std::process::Command;
 use std::sync::mpsc::{self, Receiver};
 use std::thread;
-use std::time::{Duration, Instant};
 
-use super::call::Callee;
+use super::call::{Callee, Kind};
 use super::check::Checked;
 use super::lent::{first_different, shown_around, Difference};
 use super::request::shown_bytes;
+use super::running::{Running, PATIENCE, REST};
 use crate::job;
 use crate::limits::MAX_JOB_BYTES;
 use crate::random::Random;
 
-/// How long a program may take.
-const PATIENCE: Duration = Duration::from_secs(10);
-
-/// More than any job's text has; what a program prints beyond is not read.
-const MOST_OUTPUT: u64 = 400_000;
-
-/// How long a trickling input rests now and then.
-const REST: Duration = Duration::from_micros(100);
-
-/// How many pieces come between two rests.
+/// How many pieces of a trickling input come between two rests.
 const PIECES_A_REST: usize = 8;
 
 /// What a program is given, and how.
@@ -91,17 +82,32 @@ pub fn check(program: &OsStr, input: &Input) -> Checked {
     };
     let difference = match run(program, input) {
         Ok(ran) => ran.difference(expected.as_bytes()),
-        Err(failure) => Some(Difference {
-            place: "the run of the program".to_string(),
-            expected: format!("an end of its own within {} s", PATIENCE.as_secs()),
-            came: failure,
-        }),
+        Err(failure) => Some(failed_run(failure)),
     };
     Checked {
         callee: Callee::Program,
-        number: Some(number),
+        kind: Kind::Number(number),
         difference,
     }
+}
+
+/// What is wrong with a run that failed.
+pub fn failed_run(failure: io::Error) -> Difference {
+    Difference {
+        place: "the run of the program".to_string(),
+        expected: format!("an end of its own within {} s", PATIENCE.as_secs()),
+        came: failure.to_string(),
+    }
+}
+
+/// What is wrong with an output.
+pub fn output_difference(expected: &[u8], came: &[u8]) -> Option<Difference> {
+    let at = first_different(expected, came)?;
+    Some(Difference {
+        place: format!("byte {at} of the standard output"),
+        expected: shown_around(expected, at),
+        came: shown_around(came, at),
+    })
 }
 
 /// What a program did that ended by itself.
@@ -114,50 +120,35 @@ struct Ran {
 impl Ran {
     /// What is wrong with it.
     fn difference(&self, expected: &[u8]) -> Option<Difference> {
-        let at = first_different(expected, &self.output);
-        let output = at.map(|at| Difference {
-            place: format!("byte {at} of the standard output"),
-            expected: shown_around(expected, at),
-            came: shown_around(&self.output, at),
-        });
         let too_much = (self.taken > MAX_JOB_BYTES).then(|| Difference {
             place: "what is read of the standard input".to_string(),
             expected: format!("at most {MAX_JOB_BYTES} bytes"),
             came: format!("{} bytes", self.taken),
         });
-        output.or(too_much)
+        output_difference(expected, &self.output).or(too_much)
     }
 }
 
 /// Runs the program on an input; fails if it does not end, or not by itself.
-fn run(program: &OsStr, input: &Input) -> Result<Ran, String> {
-    let failed = |error: io::Error| format!("it could not be run: {error}");
+fn run(program: &OsStr, input: &Input) -> io::Result<Ran> {
     // This end of the input is kept, to see afterwards how much of it is left.
-    let (mut unread, writer) = io::pipe().map_err(failed)?;
-    let stdin = unread.try_clone().map_err(failed)?;
+    let (mut unread, writer) = io::pipe()?;
+    let (printed, stdout) = io::pipe()?;
     let mut command = Command::new(program);
-    command.stdin(stdin).stdout(Stdio::piped());
-    let mut child = command.spawn().map_err(failed)?;
-    // The command still holds an end of the input.
-    drop(command);
-    let stdout = child.stdout.take().expect("standard output is piped");
-    let (sender, received) = mpsc::channel();
-    // Nobody waits for this thread: whatever the program has started may keep its output open.
-    thread::spawn(move || sender.send(read_output(stdout)));
-    thread::scope(|scope| {
+    command.stdin(unread.try_clone()?).stdout(stdout);
+    let running = Running::start(command, printed)?;
+    // All is moved in, so where the run fails nobody keeps the input for whoever still writes it.
+    thread::scope(move |scope| {
         let (ended, end) = mpsc::channel();
         let writing = scope.spawn(move || write_pieces(writer, input, end));
-        let Some((output, status)) = wait(&mut child, &received) else {
-            return Err(stop(child, unread));
-        };
+        let run = running.finish()?;
         drop(ended);
-        let left = unread.read_to_end(&mut Vec::new()).map_err(failed)?;
-        let written = writing.join().expect("writing does not panic");
-        written.map_err(failed)?;
-        match status.signal() {
-            Some(signal) => Err(format!("it died by signal {signal}")),
+        let left = unread.read_to_end(&mut Vec::new())?;
+        writing.join().expect("writing does not panic")?;
+        match run.status.signal() {
+            Some(signal) => Err(io::Error::other(format!("it died by signal {signal}"))),
             None => Ok(Ran {
-                output: output.map_err(failed)?,
+                output: run.output,
                 taken: input.bytes.len() - left,
             }),
         }
@@ -184,38 +175,4 @@ fn write_pieces(mut writer: PipeWriter, input: &Input, end: Receiver<()>) -> io:
         let _ = end.recv();
     }
     Ok(())
-}
-
-/// Reads what a program prints.
-fn read_output(stdout: ChildStdout) -> io::Result<Vec<u8>> {
-    let mut output = Vec::new();
-    stdout.take(MOST_OUTPUT).read_to_end(&mut output)?;
-    Ok(output)
-}
-
-/// Waits for the output and for the end; none if that takes too long.
-fn wait(
-    child: &mut Child,
-    received: &Receiver<io::Result<Vec<u8>>>,
-) -> Option<(io::Result<Vec<u8>>, ExitStatus)> {
-    let end = Instant::now() + PATIENCE;
-    let output = received.recv_timeout(PATIENCE).ok()?;
-    loop {
-        match child.try_wait() {
-            Ok(Some(status)) => return Some((output, status)),
-            Ok(None) if Instant::now() < end => thread::sleep(REST),
-            _ => return None,
-        }
-    }
-}
-
-/// Ends a program that does not end; says so.
-fn stop(mut child: Child, unread: PipeReader) -> String {
-    let killed = child.kill().and_then(|()| child.wait());
-    // Without this end, whoever still writes to the input is told that nobody reads it.
-    drop(unread);
-    match killed {
-        Ok(_) => "it did not end".to_string(),
-        Err(error) => format!("it did not end, and could not be ended: {error}"),
-    }
 }

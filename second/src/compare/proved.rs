@@ -15,7 +15,7 @@ extern "C" {
         answer_len: usize,
         nodes: *mut u64,
         nodes_len: usize,
-    );
+    ) -> u64;
     fn wuz_read_day(
         file: *const u8,
         file_len: usize,
@@ -25,7 +25,7 @@ extern "C" {
         seconds_len: usize,
         answer: *mut u64,
         answer_len: usize,
-    );
+    ) -> u64;
     fn wuz_judge(
         rule: *const u8,
         rule_len: usize,
@@ -36,7 +36,7 @@ extern "C" {
         table_len: usize,
         answer: *mut u64,
         answer_len: usize,
-    );
+    ) -> u64;
     fn wuz_run_job(
         job: *const u8,
         job_len: usize,
@@ -44,27 +44,26 @@ extern "C" {
         out_len: usize,
         answer: *mut u64,
         answer_len: usize,
-    );
+    ) -> u64;
 }
 
-/// Does a call on a small stack, in a thread with the case's name.
+/// Does a call on a small stack, in a thread with the case's name; gives what it returns.
 ///
 /// If the stack overflows, the message that ends everything has that name.
-pub fn run(case: &str, call: Call<'_>) {
+pub fn run(case: &str, call: Call<'_>) -> u64 {
     let small = thread::Builder::new()
         .name(case.to_string())
         .stack_size(LIBRARY_STACK);
     thread::scope(|scope| {
         let called = small.spawn_scoped(scope, || run_here(call));
         let thread = called.unwrap_or_else(|error| panic!("no thread for {case}: {error}"));
-        if thread.join().is_err() {
-            panic!("the library panicked in {case}");
-        }
-    });
+        let returned = thread.join();
+        returned.unwrap_or_else(|_| panic!("the library panicked in {case}"))
+    })
 }
 
 /// Does a call on the stack that there is.
-fn run_here(call: Call<'_>) {
+fn run_here(call: Call<'_>) -> u64 {
     match call {
         Call::ReadRule {
             text,
@@ -91,7 +90,7 @@ fn run_here(call: Call<'_>) {
 // In each of the following the pointers and lengths are those of slices, and the slices that are
 // written are borrowed by nobody else: that is all that the C interface asks of its caller.
 
-fn read_rule(text: &[u8], answer: &mut [u64], nodes: &mut [u64]) {
+fn read_rule(text: &[u8], answer: &mut [u64], nodes: &mut [u64]) -> u64 {
     unsafe {
         wuz_read_rule(
             text.as_ptr(),
@@ -104,7 +103,7 @@ fn read_rule(text: &[u8], answer: &mut [u64], nodes: &mut [u64]) {
     }
 }
 
-fn read_day(file: &[u8], letters: &mut [u8], seconds: &mut [u32], answer: &mut [u64]) {
+fn read_day(file: &[u8], letters: &mut [u8], seconds: &mut [u32], answer: &mut [u64]) -> u64 {
     unsafe {
         wuz_read_day(
             file.as_ptr(),
@@ -119,7 +118,7 @@ fn read_day(file: &[u8], letters: &mut [u8], seconds: &mut [u32], answer: &mut [
     }
 }
 
-fn judge(rule: &[u8], word: &[u8], limit: u64, table: &mut [u64], answer: &mut [u64]) {
+fn judge(rule: &[u8], word: &[u8], limit: u64, table: &mut [u64], answer: &mut [u64]) -> u64 {
     unsafe {
         wuz_judge(
             rule.as_ptr(),
@@ -135,7 +134,7 @@ fn judge(rule: &[u8], word: &[u8], limit: u64, table: &mut [u64], answer: &mut [
     }
 }
 
-fn run_job(job: &[u8], out: &mut [u8], answer: &mut [u64]) {
+fn run_job(job: &[u8], out: &mut [u8], answer: &mut [u64]) -> u64 {
     unsafe {
         wuz_run_job(
             job.as_ptr(),

@@ -2,7 +2,7 @@
 //!
 //! Each gives its number, or none where a buffer is too short for any answer; then nothing changes.
 
-use super::call::{Call, Callee, NODES};
+use super::call::{Call, Callee, NODES, UNANSWERED};
 use crate::rule::{Kind, Node};
 use crate::{day, job, judge, refusal::Reason, rule};
 
@@ -29,6 +29,11 @@ pub fn run(call: Call<'_>) -> Option<u32> {
         } => run_judge(rule, word, limit, table, answer),
         Call::RunJob { job, out, answer } => run_job(job, out, answer),
     }
+}
+
+/// What a call returns that gives such a number, or none.
+pub fn returned(number: Option<u32>) -> u64 {
+    number.map_or(UNANSWERED, u64::from)
 }
 
 /// Reads a rule text, and writes two numbers for each of its nodes.

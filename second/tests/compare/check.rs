@@ -1,6 +1,6 @@
 //! One call and its comparison: libraries that do one thing wrong are found.
 
-use second::compare::call::{Call, NODES};
+use second::compare::call::{Call, Kind, NODES};
 use second::compare::check::check;
 use second::compare::lent::Dirt;
 use second::compare::reference;
@@ -11,6 +11,16 @@ type Mistake = fn(&mut Call);
 
 /// Where a library that makes the mistake differs, whatever it is lent.
 fn place(asked: Asked, answer: usize, mistake: Mistake) -> Option<String> {
+    place_of(asked, answer, mistake, |returned| returned)
+}
+
+/// Where a library differs that makes the mistake, and returns what it makes of the right number.
+fn place_of(
+    asked: Asked,
+    answer: usize,
+    mistake: Mistake,
+    changed: fn(u64) -> u64,
+) -> Option<String> {
     let places = [Dirt::Ones, Dirt::Noise(3)].map(|dirt| {
         let request = Request {
             asked: asked.clone(),
@@ -18,8 +28,9 @@ fn place(asked: Asked, answer: usize, mistake: Mistake) -> Option<String> {
             dirt,
         };
         let library = |_: &str, mut call: Call| {
-            reference::run(borrowed(&mut call));
+            let number = reference::run(borrowed(&mut call));
             mistake(&mut call);
+            changed(reference::returned(number))
         };
         let difference = check(&library, "a case", &request).difference;
         difference.map(|difference| difference.place)
@@ -129,18 +140,18 @@ fn a_library_without_a_mistake_does_not_differ() {
 
 #[test]
 fn the_number_that_should_come_is_told() {
-    let number = |asked: Asked, answer: usize| {
+    let kind = |asked: Asked, answer: usize| {
         let request = Request {
             asked,
             answer,
             dirt: Dirt::Ones,
         };
-        check(&|_, _| (), "a case", &request).number
+        check(&|_, _| 0, "a case", &request).kind
     };
-    assert_eq!(number(judgement(7), 4), Some(0));
-    assert_eq!(number(judgement(6), 4), Some(10));
-    assert_eq!(number(judgement(6), 3), None);
-    assert_eq!(number(job(0), 5), Some(15));
+    assert_eq!(kind(judgement(7), 4), Kind::Number(0));
+    assert_eq!(kind(judgement(6), 4), Kind::Number(10));
+    assert_eq!(kind(judgement(6), 3), Kind::Unanswered);
+    assert_eq!(kind(job(0), 5), Kind::Number(15));
 }
 
 #[test]
@@ -151,12 +162,50 @@ fn a_library_that_does_nothing_differs() {
             answer: 6,
             dirt: Dirt::Ones,
         };
-        let difference = check(&|_, _| (), "a case", &request).difference;
+        let difference = check(&|_, _| 0, "a case", &request).difference;
         assert_eq!(
             difference.unwrap().place,
             "answer[0], lent with a length of 6"
         );
     }
+}
+
+#[test]
+fn the_returned_number_is_compared() {
+    let calls = [rule(), day(3, 4), day(0, 4), judgement(7), judgement(6)];
+    let mut calls = calls.to_vec();
+    calls.extend([job(40), job(0)]);
+    let place = |asked: &Asked, answer, changed| place_of(asked.clone(), answer, |_| (), changed);
+    let found = Some("the number returned".to_string());
+    for asked in &calls {
+        // With an answer that is long enough and with one that is not.
+        for answer in [8, 3, 0] {
+            assert_eq!(place(asked, answer, |number| number ^ 1), found);
+        }
+        assert_eq!(place(asked, 3, |_| 0), found);
+        assert_eq!(place(asked, 8, |_| u64::MAX), found);
+    }
+}
+
+#[test]
+fn a_wrong_number_is_shown() {
+    let shown = |answer, returned: u64| {
+        let request = Request {
+            asked: judgement(6),
+            answer,
+            dirt: Dirt::Ones,
+        };
+        let library = move |_: &str, call: Call| {
+            reference::run(call);
+            returned
+        };
+        let difference = check(&library, "a case", &request).difference.unwrap();
+        (difference.expected, difference.came)
+    };
+    let unanswered = "18446744073709551615, WUZ_UNANSWERED";
+    assert_eq!(shown(4, 0), ("10".into(), "0".into()));
+    assert_eq!(shown(3, 10), (unanswered.into(), "10".into()));
+    assert_eq!(shown(4, u64::MAX), ("10".into(), unanswered.into()));
 }
 
 #[test]

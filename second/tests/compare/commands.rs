@@ -1,10 +1,13 @@
 //! Whole runs: what they print, how they end, and that they stop.
 
-use second::compare::call::{Call, Callee};
+use second::compare::call::{Call, Callee, Kind};
 use second::compare::check::Checked;
 use second::compare::commands::{edges, jobs, library, Cases};
 use second::compare::reference;
 use second::compare::run::{Label, Run};
+use second::compare::trouble;
+
+use crate::scripts::{script, RIGHT};
 
 const CASES: Cases = Cases {
     seed: 3,
@@ -13,12 +16,14 @@ const CASES: Cases = Cases {
 };
 
 /// A library that makes no mistake.
-fn right(_: &str, call: Call) {
-    reference::run(call);
+fn right(_: &str, call: Call) -> u64 {
+    reference::returned(reference::run(call))
 }
 
 /// A library that does nothing.
-fn idle(_: &str, _: Call) {}
+fn idle(_: &str, _: Call) -> u64 {
+    0
+}
 
 /// What a command prints, and whether all was well.
 fn printed(command: impl FnOnce(&mut Vec<u8>) -> std::io::Result<bool>) -> (String, bool) {
@@ -85,17 +90,38 @@ fn all_edges_pass_and_give_every_number() {
 
 #[test]
 fn jobs_go_through_the_program_and_the_library() {
-    let second = env!("CARGO_BIN_EXE_second").as_ref();
-    let command = "compare jobs second";
-    let (text, well) = printed(|output| jobs(&right, second, CASES, command, output));
-    assert_eq!((last_line(&text), well), ("60 passed, 0 failed", true));
-    assert!(text.contains("wuz_run_job: 60 cases\n") && text.contains("the program: 60 cases\n"));
-    let (text, well) = printed(|output| jobs(&idle, second, CASES, command, output));
+    let program = &script("right-jobs", RIGHT);
+    let command = "compare jobs checker";
+    let (text, well) = printed(|output| jobs(&right, program, CASES, command, output));
+    let all = 60 + trouble::cases().len();
+    assert_eq!(last_line(&text), format!("{all} passed, 0 failed"));
+    assert!(well && text.contains("the program: 60 cases\n"));
+    assert!(text.contains("wuz_run_job: 60 cases\n"));
+    let (text, well) = printed(|output| jobs(&idle, program, CASES, command, output));
     assert!(!well && text.contains("called:   wuz_run_job: job \""));
-    let wrong = "/bin/true".as_ref();
+    // The first line of document 01's whole case alone is wrong.
+    let changed = "SECOND | sed s/^H.1.2.1/h/";
+    let wrong = &script("wrong-jobs", &RIGHT.replace("SECOND", changed));
     let (text, well) = printed(|output| jobs(&right, wrong, CASES, command, output));
     assert!(!well && text.contains("called:   the program: input \""));
-    assert!(text.contains("again:    compare jobs second 3 1 1\n"));
+    assert!(text.contains("again:    compare jobs checker 3 1 1\n"));
+}
+
+#[test]
+fn the_program_in_trouble_comes_with_any_jobs() {
+    let none = Cases { count: 0, ..CASES };
+    let program = &script("right-without-jobs", RIGHT);
+    let (text, well) = printed(|output| jobs(&right, program, none, "compare jobs", output));
+    let all = trouble::cases().len();
+    assert!(text.starts_with(&format!("the program in trouble: {all} cases\n")));
+    assert_eq!(last_line(&text), format!("{all} passed, 0 failed"));
+    assert!(well);
+    let wrong = "/bin/false".as_ref();
+    let (text, well) = printed(|output| jobs(&right, wrong, CASES, "compare jobs", output));
+    assert!(!well && text.contains("stopped after 10 differences"));
+    assert!(text.contains("DIFFERENCE in case 1 of the program in trouble\n"));
+    assert!(text.contains("called:   the program: input a directory; input \"\" (0 bytes)\n"));
+    assert!(text.contains("again:    compare jobs 3 0\n"));
 }
 
 #[test]
@@ -106,11 +132,11 @@ fn a_number_that_never_came_is_a_failure() {
         name: "a case".into(),
         again: "compare".into(),
     };
-    for number in Callee::ReadDay.outcomes() {
-        if number != Some(14) {
+    for kind in Callee::ReadDay.kinds() {
+        if kind != Kind::Number(14) {
             let checked = Checked {
                 callee: Callee::ReadDay,
-                number,
+                kind,
                 difference: None,
             };
             run.add(&label, &[(checked, &"a day")]).unwrap();
@@ -120,4 +146,14 @@ fn a_number_that_never_came_is_a_failure() {
     let text = String::from_utf8(output).unwrap();
     assert!(text.contains("MISSING: wuz_read_day never had refusal 14\n"));
     assert_eq!(last_line(&text), "6 passed, 1 failed");
+}
+
+#[test]
+fn a_trouble_that_never_came_is_a_failure() {
+    let mut output = Vec::new();
+    let run = Run::new(&mut output);
+    assert!(!run.finish(&[Callee::Troubled]).unwrap());
+    let text = String::from_utf8(output).unwrap();
+    assert!(text.contains("MISSING: the program in trouble never had input closed\n"));
+    assert_eq!(last_line(&text), "0 passed, 15 failed");
 }

@@ -8,3 +8,5 @@ mod jobs;
 mod lent;
 mod program;
 mod reference;
+mod scripts;
+mod trouble;

@@ -1,11 +1,11 @@
 //! Programs that are run: the second program itself does not differ, others do.
 
+use second::compare::call::Kind;
 use second::compare::job_edges::jobs;
 use second::compare::program::{check, Input};
 use second::compare::random_requests::source;
 
-/// The second program, which is a program of document 01 too.
-const SECOND: &str = env!("CARGO_BIN_EXE_second");
+use crate::scripts::SECOND;
 
 /// What is wrong with a program on an input, as it is printed; it has to be something.
 fn difference(program: &str, input: &Input) -> String {
@@ -32,15 +32,15 @@ fn the_second_program_does_not_differ() {
 
 #[test]
 fn the_number_is_the_jobs() {
-    let number = |job: &[u8]| {
+    let kind = |job: &[u8]| {
         let input = Input::drawn(&mut source(2, 1), job.to_vec());
-        check(SECOND.as_ref(), &input).number
+        check(SECOND.as_ref(), &input).kind
     };
-    assert_eq!(number(b"R\t1\n"), Some(0));
-    assert_eq!(number(b"R\ta|\n"), Some(4));
+    assert_eq!(kind(b"R\t1\n"), Kind::Number(0));
+    assert_eq!(kind(b"R\ta|\n"), Kind::Number(4));
     // The newline is the first byte that is not read.
     let job = [b"R\t", &[b'a'; 2_807][..], b"\n"].concat();
-    assert_eq!(number(&job), Some(16));
+    assert_eq!(kind(&job), Kind::Number(16));
 }
 
 #[test]

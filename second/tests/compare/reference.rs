@@ -2,7 +2,7 @@
 //! interface give by hand.
 
 use second::compare::call::Call;
-use second::compare::reference::run;
+use second::compare::reference::{returned, run};
 
 /// What a buffer holds before a call.
 const KEPT: u64 = 77;
@@ -89,6 +89,12 @@ fn what_is_too_short_to_answer_stays_as_it_is() {
     });
     assert_eq!(number, None);
     assert_eq!((letters, seconds, answer), ([b'?'], [7], [KEPT; 4]));
+}
+
+#[test]
+fn what_is_returned_is_the_number_or_none_that_there_is() {
+    assert_eq!([Some(0), Some(16)].map(returned), [0, 16]);
+    assert_eq!(returned(None), 18_446_744_073_709_551_615);
 }
 
 #[test]

@@ -2,7 +2,7 @@
 use mathlib.Core.Path.{ap, _∙_, subst}
 use Prim.Native.Nat.{ℕ, _/_}
 use borrow.Author.Needs.{needs}
-use Rattle.bits.specs.Bit.{joined, Merged}
+use Rattle.bits.specs.Runs.{joined, Merged}
 use Rattle.bits.proofs.Laws.{merged-put}
 use Rattle.bits.proofs.put.Statement.{statement}
 use Rattle.bits.proofs.put.Tie as tie

@@ -2,6 +2,7 @@
 use mathlib.Core.Path.{sym}
 use lib.Seq.{length-take-le}
 use borrow.Author.Needs.{needs}
+use Rattle.checker.proofs.TransferLaws.{bytes-within}
 use Rattle.checker.proofs.main.Statement.{statement}
 use Rattle.checker.proofs.main.Tie as tie
 
@@ -12,6 +13,12 @@ main-spec =
     (λ c κs. search needs)
     (λ c. search needs)
     (λ c. search needs)
+    (λ c. search needs)
+    (λ c. bytes-within _ (c .before .got .given .1) (c .before .before .before .before .read-job .ensures))
+    (λ c.
+    let g = c .before .before .got .given in
+    let r = c .before .before .before .before .before .read-job in
+    sym (length-take-le (g .0 .0) (r .last .0) (bytes-within (r .last .0) (g .1) (r .ensures))))
     (λ c. search needs)
     (λ c κs. search needs)
     (λ c. search needs)

@@ -1,11 +1,13 @@
 -- `run` answers as `jobAnswer`, and so by the grammar, the language and the collection. Assumes nothing.
 use Prim.Native.Nat.{ℕ}
 use native.Mathlib.Omega.{arith}
-use mathlib.Core.Path.{ap₂, _∙_}
+use mathlib.Core.Path.{ap, ap₂, _∙_}
 use mathlib.Core.List.{List}
 use borrow.Author.Needs.{needs}
-use Rattle.rule.specs.RuleAnswer.{ruleAnswer}
-use Rattle.job.specs.JobAnswer.{refusal, written, afterRule}
+use Rattle.rule.specs.RuleComputed.{ruleAnswer}
+use Rattle.verdict.specs.declared.Verdict.{Verdict}
+use Rattle.job.specs.JobAnswer.{refusal}
+use Rattle.job.specs.JobComputed.{written, afterRule}
 use Rattle.job.proofs.FirstLine.{not-job, is-job, within, rule-part, day-part, line-stop, line-pass}
 use Rattle.job.proofs.Answered.{with-meaning}
 use Rattle.job.proofs.run.Statement.{statement}
@@ -22,7 +24,7 @@ run-spec =
     let e = c .before .before .before .line-end in
     let v = c .before .refusal .ensures in
     with-meaning (c .refused .ensures (a .out .now)
-    ∙ ap₂ (λ (n p : ℕ). refusal n p (a .out .now)) (v .number-is) (v .place-is)
+    ∙ ap (λ (x : Verdict). refusal (x .number) (x .place) (a .out .now)) v
     ∙ line-stop (a .job .now) (a .out .now) (not-job (a .job .now) (e .result) (e .ensures) (c .before .before .if1 .taken))))
     (λ c.
     let e = c .before .line-end in

@@ -6,12 +6,14 @@ use mathlib.Core.List.{List}
 use lib.ListN.{length, take, replicate}
 use lib.Seq.{length-take-le}
 use borrow.Author.Needs.{needs}
-use Rattle.day.specs.DayAnswer.{dayAnswer, dayValues}
+use Rattle.day.specs.DayAnswer.{dayValues}
+use Rattle.day.specs.DayComputed.{dayAnswer}
 use Rattle.day.specs.DayMeaning.{DayMeaning}
 use Rattle.day.specs.declared.Outcome.{Outcome}
 use Rattle.day.specs.declared.Outcome.the-variants.{Accepted}
-use Rattle.job.specs.JobAnswer.{JobResult, written}
-use Rattle.job.proofs.Steps.{day-stop, day-pass, days}
+use Rattle.job.specs.JobComputed.{JobResult, written}
+use Rattle.job.proofs.Steps.{day-stop, day-pass}
+use Rattle.day.proofs.Rows.{events-few}
 use Rattle.job.proofs.run_day.Statement.{statement}
 use Rattle.job.proofs.run_day.Tie as tie
 
@@ -19,7 +21,7 @@ use Rattle.job.proofs.run_day.Tie as tie
 fits : {file old-ls old-ss : List ℕ} {d : Outcome} (n : ℕ) (ls ss : List ℕ) → d ≡ Accepted n
     → DayMeaning file old-ls old-ss (dayValues d ls ss) → length ls ≡ 255 → n ≤ length ls
 fits {file} {old-ls} {old-ss} n ls ss e m l =
-    let h : n ≤ 255 = days (subst (λ (x : Outcome). DayMeaning file old-ls old-ss (dayValues x ls ss)) e m) in
+    let h : n ≤ 255 = events-few (subst (λ (x : Outcome). DayMeaning file old-ls old-ss (dayValues x ls ss)) e m) in
     omega arith
 
 short : {file old-ls old-ss : List ℕ} {d : Outcome} (n : ℕ) (ls ss : List ℕ) → d ≡ Accepted n
@@ -36,15 +38,16 @@ run-day-spec =
     (λ c. search needs)
     (λ c κs. search needs)
     (λ c. search needs)
+    (λ c. search needs)
     (λ c κs. search needs)
     (λ c κs. search needs)
     (λ c.
-    let a = c .before .before .before .before .before .before .before .before .before .before .before .args in
-    let r = c .before .before .before .before .before .read in
-    let v = c .before .of-day in
+    let a = c .before .before .before .before .before .before .before .before .before .before .before .before .args in
+    let r = c .before .before .before .before .before .before .read in
+    let v = c .before .outcome-verdict in
     c .refused .ensures (a .out .now)
     ∙ day-stop (a .rule .now) (a .m) (a .k) (a .out .now) (dayAnswer (a .file .now) (replicate 255 0) (replicate 255 0)) (r .result)
-    (r .last .1 .0) (r .last .1 .1 .0) (v .result) (r .ensures .0) (c .before .before .match .keys2) (v .ensures))
+    (r .last .1 .0) (r .last .1 .1 .0) (v .result) (r .ensures .0) (c .before .before .before .match .keys2) (v .ensures))
     (λ c.
     let r = c .before .before .before .before .before .read in
     let o = c .before .outcome .given in

@@ -6,9 +6,10 @@ use mathlib.Core.Path.{_≡_, sym, ap, _∙_}
 use mathlib.Core.List.{List}
 use lib.ListN.{length, take, replicate}
 use lib.Seq.{length-take-le}
-use Rattle.judge.specs.JudgeAnswer.{judgeAnswer, judgeValues}
+use Rattle.judge.specs.JudgeAnswer.{judgeValues}
+use Rattle.judge.specs.JudgeComputed.{judgeAnswer}
 use Rattle.judge.specs.declared.Outcome.{Outcome}
-use Rattle.job.specs.JobAnswer.{JobResult, written, limitOf}
+use Rattle.job.specs.JobComputed.{JobResult, written, limitOf}
 use Rattle.job.proofs.Steps.{judge-stop, judge-pass}
 use borrow.Author.Needs.{needs}
 use Rattle.job.proofs.run_judge.Statement.{statement}
@@ -51,7 +52,7 @@ run-judge-spec =
     (λ c.
     let a = c .before .before .before .before .before .before .before .before .before .args in
     let r = c .before .before .before .before .judge in
-    let v = c .before .of-judge in
+    let v = c .before .outcome-verdict in
     let n = length (a .word .now) in
     c .refused .ensures (a .out .now)
     ∙ judge-stop n (a .m) (a .k) (a .out .now) (judgeAnswer (a .rule .now) (a .word .now) (limitOf (a .m) n) (replicate 8192 0)) (r .result)

@@ -4,8 +4,9 @@ use borrow.Author.Needs.{needs}
 use Rattle.rule.specs.RuleAnswer.{ruleValues}
 use Rattle.rule.specs.RuleMeaning.{RuleMeaning}
 use Rattle.rule.specs.declared.Outcome.{Outcome}
-use Rattle.job.specs.JobAnswer.{JobResult, written}
-use Rattle.job.proofs.Steps.{rule-stop, rule-pass, sizes}
+use Rattle.job.specs.JobComputed.{JobResult, written}
+use Rattle.job.proofs.Steps.{rule-stop, rule-pass}
+use Rattle.rule.proofs.Rows.{sizes}
 use Rattle.job.proofs.run_rule.Statement.{statement}
 use Rattle.job.proofs.run_rule.Tie as tie
 
@@ -14,15 +15,16 @@ run-rule-spec =
     tie.close (tie.spec
     (λ c κs. search needs)
     (λ c. search needs)
+    (λ c. search needs)
     (λ c κs. search needs)
     (λ c κs. search needs)
     (λ c.
-    let a = c .before .before .before .before .before .before .before .args in
-    let r = c .before .before .before .read in
-    let v = c .before .of-rule in
+    let a = c .before .before .before .before .before .before .before .before .args in
+    let r = c .before .before .before .before .read in
+    let v = c .before .outcome-verdict in
     c .refused .ensures (a .out .now)
     ∙ rule-stop (a .rule .now) (a .file .now) (a .out .now) (r .result .outcome) (r .result .nodes) (v .result) (r .ensures .0)
-    (c .before .before .match .keys2) (v .ensures))
+    (c .before .before .before .match .keys2) (v .ensures))
     (λ c κs.
     let a = c .before .before .before .before .before .before .before .before .args in
     let r = c .before .before .before .before .read in

@@ -1,8 +1,6 @@
 -- `judge` answers as `judgeAnswer`, and so by the grammar, the language and the collection. Assumes nothing.
-use native.Mathlib.Omega.{arith}
 use mathlib.Core.Path.{_∙_}
 use borrow.Author.Needs.{needs}
-use Rattle.rule.specs.declared.Outcome.the-variants.{EmptyText, LongText, ForeignByte, NoSentence, ManyNodes, ManySpecials}
 use Rattle.judge.proofs.Joined.{after-refusal, after-acceptance, rule-records}
 use Rattle.judge.proofs.Results.{clauses}
 use Rattle.judge.proofs.judge.Statement.{statement}
@@ -21,11 +19,6 @@ judge-spec =
     (λ c κs. search needs)
     (λ c. search needs)
     (λ c. search needs)
-    (λ c. search needs)
-    (λ c. search needs)
-    (λ c. search needs)
-    (λ c. search needs)
-    (λ c. search needs)
     (λ c.
     let h = c .before .before .before in
     let o = h .before .before .before .outcome .given in
@@ -34,34 +27,6 @@ judge-spec =
     clauses (c .matched .ensures (h .match-spans .last .1 .1 .1 .1 .1 .0) ∙ h .match-spans .ensures .0
     ∙ after-acceptance (a .rule .now) (a .word .now) (a .limit) (a .table .now) (r .result) (r .ensures .0) (o .0 .0) (o .0 .1 .0) (o .1)))
     (λ c.
-    let a = c .before .before .before .before .before .before .before .args in
-    let r = c .before .before .before .read in
-    clauses (after-refusal (a .rule .now) (a .word .now) (a .limit) (a .table .now) (r .result) (r .ensures .0)
-    EmptyText (c .enum-told .given .1) (omega arith)))
-    (λ c.
-    let a = c .before .before .before .before .before .before .before .args in
-    let r = c .before .before .before .read in
-    clauses (after-refusal (a .rule .now) (a .word .now) (a .limit) (a .table .now) (r .result) (r .ensures .0)
-    LongText (c .enum-told2 .given .1) (omega arith)))
-    (λ c.
     let a = c .before .before .before .before .before .before .before .before .args in
     let r = c .before .before .before .before .read in
-    let o = c .before .outcome2 .given in
-    clauses (after-refusal (a .rule .now) (a .word .now) (a .limit) (a .table .now) (r .result) (r .ensures .0)
-    (ForeignByte (o .0 .0)) (o .1) (omega arith)))
-    (λ c.
-    let a = c .before .before .before .before .before .before .before .before .args in
-    let r = c .before .before .before .before .read in
-    let o = c .before .outcome3 .given in
-    clauses (after-refusal (a .rule .now) (a .word .now) (a .limit) (a .table .now) (r .result) (r .ensures .0)
-    (NoSentence (o .0 .0)) (o .1) (omega arith)))
-    (λ c.
-    let a = c .before .before .before .before .before .before .before .args in
-    let r = c .before .before .before .read in
-    clauses (after-refusal (a .rule .now) (a .word .now) (a .limit) (a .table .now) (r .result) (r .ensures .0)
-    ManyNodes (c .enum-told3 .given .1) (omega arith)))
-    (λ c.
-    let a = c .before .before .before .before .before .before .before .args in
-    let r = c .before .before .before .read in
-    clauses (after-refusal (a .rule .now) (a .word .now) (a .limit) (a .table .now) (r .result) (r .ensures .0)
-    ManySpecials (c .enum-told4 .given .1) (omega arith))))
+    clauses (after-refusal (a .rule .now) (a .word .now) (a .limit) (a .table .now) (r .result) (r .ensures .0) _ (c .before .outcome2 .given .1))))

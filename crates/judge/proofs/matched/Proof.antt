@@ -11,11 +11,5 @@ matched-spec =
     tie.close (tie.spec
     (λ c. search needs)
     (λ c. search needs)
-    (λ c. search needs)
-    (λ c. search needs)
-    (λ c. search needs)
     (λ c b. ap (λ (x : Outcome). matchValues x b) (sym (c .before .outcome .given .1)))
-    (λ c b. ap (λ (x : Outcome). matchValues x b) (sym (c .enum-told .given .1)))
-    (λ c b. ap (λ (x : Outcome). matchValues x b) (sym (c .before .outcome2 .given .1)))
-    (λ c b. ap (λ (x : Outcome). matchValues x b) (sym (c .enum-told2 .given .1)))
-    (λ c b. ap (λ (x : Outcome). matchValues x b) (sym (c .before .outcome3 .given .1))))
+    (λ c b. ap (λ (x : Outcome). matchValues x b) (sym (c .before .outcome2 .given .1))))

@@ -5,7 +5,7 @@ use borrow.Author.Tests.{lt-ltb, le-ltb}
 use borrow.Author.Needs.{needs}
 use Rattle.regex.specs.Tree.{size, specials}
 use Rattle.regex.specs.TreeOf.{treeOf}
-use Rattle.rule.proofs.Answered.{answerOf, accepted-values, complete}
+use Rattle.rule.proofs.Answered.{accepted-values, complete}
 use Rattle.rule.proofs.read_sentence.Statement.{statement}
 use Rattle.rule.proofs.read_sentence.Tie as tie
 
@@ -17,13 +17,13 @@ read-sentence-spec =
     let b = c .before .before .before in
     let t = treeOf (b .args .text .now) in
     let w = complete (b .pre .1) in
-    ap answerOf (c .refused .ensures) ∙ sym (simp (lt-ltb 64 (size t) (omega arith))))
+    c .refused .ensures ∙ sym (simp (lt-ltb 64 (size t) (omega arith))))
     (λ c κs. tt)
     (λ c.
     let b = c .before .before .before .before in
     let t = treeOf (b .args .text .now) in
     let w = complete (b .pre .1) in
-    ap answerOf (c .refused2 .ensures) ∙ sym (simp (le-ltb 64 (size t) (omega arith), lt-ltb 7 (specials t) (omega arith))))
+    c .refused2 .ensures ∙ sym (simp (le-ltb 64 (size t) (omega arith), lt-ltb 7 (specials t) (omega arith))))
     (λ c κs. search needs)
     (λ c.
     let b = c .before .before .before .before in

@@ -8,7 +8,7 @@ use borrow.Author.Needs.{needs}
 use borrow.Author.Tests.{eq-eqb, ne-eqb}
 use Rattle.event.specs.Leading.{leading}
 use Rattle.event.proofs.LeadingLaws.{leading-on, leading-here, leading-end}
-use Rattle.job.specs.JobAnswer.{notNewline}
+use Rattle.job.specs.JobComputed.{notNewline}
 use Rattle.job.proofs.parts.find_newline.Statement.{statement}
 use Rattle.job.proofs.parts.find_newline.Tie as tie
 

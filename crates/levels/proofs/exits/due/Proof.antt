@@ -3,7 +3,8 @@ use mathlib.Core.Path.{_≡_, _∙_}
 use Prim.Native.Nat.{_-_, _<_}
 use lib.ListN.{length}
 use native.Mathlib.Omega.{arith}
-use Rattle.bits.specs.Bit.{bitAt, tallyBelow}
+use Rattle.bits.specs.Bit.{bitAt}
+use Rattle.bits.specs.Runs.{tallyBelow}
 use Rattle.levels.proofs.ExitLaws.{Dues, dues-start, dues-turn, dues-done, due-law}
 use Rattle.levels.proofs.SetLaws.{missing-less}
 use borrow.Author.Needs.{needs}

@@ -4,7 +4,8 @@ use Prim.Native.Nat.{ℕ, _-_}
 use lib.ListN.{length, getD}
 use borrow.Author.Needs.{needs}
 use native.Mathlib.Omega.{arith}
-use Rattle.bits.specs.Bit.{hasBit, tallyBelow}
+use Rattle.bits.specs.Bit.{hasBit}
+use Rattle.bits.specs.Runs.{tallyBelow}
 use Rattle.levels.proofs.Following.{Following, following-start, following-turn, following-less, following-done}
 use Rattle.levels.proofs.free.follow_word.Statement.{statement}
 use Rattle.levels.proofs.free.follow_word.Tie as tie

@@ -1,7 +1,8 @@
 -- `saturate` enters the special nodes that it comes to, one after another. Assumes nothing.
 use Prim.Native.Nat.{_-_}
 use native.Mathlib.Omega.{arith}
-use Rattle.bits.specs.Bit.{bitAt, tallyBelow}
+use Rattle.bits.specs.Bit.{bitAt}
+use Rattle.bits.specs.Runs.{tallyBelow}
 use Rattle.levels.proofs.SetLaws.{missing-less}
 use Rattle.levels.proofs.Saturating.{Saturating, saturating-start, saturating-done, saturating-turn, entry-even, entry-small}
 use borrow.Author.Needs.{needs}

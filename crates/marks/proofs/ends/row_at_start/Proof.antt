@@ -6,7 +6,8 @@ use Prim.Native.Nat.{ℕ, _+_, _*_, _<_}
 use native.Mathlib.Omega.{arith}
 use lib.Bits.{bitAnd}
 use lib.ListN.{replicate}
-use Rattle.bits.specs.Bit.{bitAt, indicator}
+use Rattle.bits.specs.Bit.{bitAt}
+use Rattle.bits.specs.Runs.{indicator}
 use Rattle.bits.proofs.Laws.{zeros-bit}
 use Rattle.levels.proofs.SetLaws.{same-bits}
 use Rattle.marks.proofs.RowLaws.{both-law, one-span}

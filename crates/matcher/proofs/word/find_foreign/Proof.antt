@@ -6,7 +6,7 @@ use lib.ListN.{length, drop}
 use borrow.Author.Needs.{needs}
 use Rattle.event.specs.Event.{isEvent}
 use Rattle.event.proofs.LeadingLaws.{leading-on, leading-here, leading-end}
-use Rattle.matcher.specs.MatchAnswer.{foreignAt}
+use Rattle.matcher.specs.MatchComputed.{foreignAt}
 use Rattle.matcher.proofs.word.find_foreign.Statement.{statement}
 use Rattle.matcher.proofs.word.find_foreign.Tie as tie
 

@@ -4,7 +4,7 @@ use mathlib.Core.List.{List}
 use Prim.Native.Nat.{ℕ, _-_, _≤_}
 use native.Mathlib.Omega.{arith}
 use lib.ListN.{length}
-use Rattle.bits.specs.Bit.{Adds}
+use Rattle.bits.specs.Runs.{Adds}
 use Rattle.moves.specs.Closing.{Completed, OnDiagonal}
 use Rattle.moves.proofs.ClosingLaws.{completed-start, completed-done}
 use Rattle.moves.proofs.closure.close.Statement.{statement}

@@ -5,7 +5,8 @@ use mathlib.Core.Logic.{inl}
 use Prim.Native.Nat.{ℕ, _-_}
 use native.Mathlib.Omega.{arith}
 use lib.ListN.{length}
-use Rattle.bits.specs.Bit.{bitAt, tallyBelow}
+use Rattle.bits.specs.Bit.{bitAt}
+use Rattle.bits.specs.Runs.{tallyBelow}
 use Rattle.moves.specs.Closing.{Completed}
 use Rattle.moves.proofs.ClosingLaws.{Completing, completing-start, completing-turn, completing-done, next-less}
 use Rattle.moves.proofs.closure.complete.Statement.{statement}

@@ -2,7 +2,7 @@
 use mathlib.Core.Path.{_≡_}
 use Prim.Native.Nat.{_-_, _≤_}
 use native.Mathlib.Omega.{arith}
-use Rattle.bits.specs.Bit.{Adds}
+use Rattle.bits.specs.Runs.{Adds}
 use Rattle.moves.specs.Closing.{OnDiagonal}
 use Rattle.moves.proofs.ClosingLaws.{diagonal-none, diagonal-turn}
 use Rattle.moves.proofs.closure.diagonal.Statement.{statement}

@@ -2,7 +2,7 @@
 use mathlib.Core.Path.{_≡_, _∙_}
 use Prim.Native.Nat.{_-_, _≤_}
 use native.Mathlib.Omega.{arith}
-use Rattle.bits.specs.Bit.{Adds}
+use Rattle.bits.specs.Runs.{Adds}
 use Rattle.moves.specs.Moves.{RecordMove}
 use Rattle.moves.proofs.RecordLaws.{moves-none, moves-turn}
 use Rattle.moves.proofs.free.add_moves.Statement.{statement}

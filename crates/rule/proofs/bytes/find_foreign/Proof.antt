@@ -5,7 +5,8 @@ use mathlib.Core.Path.{_≡_, sym, _∙_}
 use lib.ListN.{length, drop}
 use borrow.Author.Needs.{needs}
 use Rattle.event.proofs.LeadingLaws.{leading-on, leading-here, leading-end}
-use Rattle.rule.specs.RuleAnswer.{isRuleByte, foreignAt}
+use Rattle.rule.specs.RuleAnswer.{isRuleByte}
+use Rattle.rule.specs.RuleComputed.{foreignAt}
 use Rattle.rule.proofs.bytes.find_foreign.Statement.{statement}
 use Rattle.rule.proofs.bytes.find_foreign.Tie as tie
 

@@ -1,0 +1,2 @@
+-- The program's reads and writes.
+pub mod Transfers

@@ -1,0 +1,114 @@
+// The C interface, include/wuzlevor.h: each call leaves in its buffers what the library's call leaves, writes the answer as numbers, and
+// returns its number.
+mod counts;
+mod row;
+
+use verdict::Verdict;
+ghost use mathlib.Core.Path.{_≡_};
+ghost use Rattle.wuzlevor.specs.Exported.{ruleEffect, RuleExport, dayEffect, DayExport};
+ghost use Rattle.wuzlevor.specs.Exported.{judgeEffect, JudgeExport, jobEffect, JobExport};
+ghost use Rattle.wuzlevor.specs.ExportComputed.{readRule, readDay, judgeSpans, runJob};
+
+// The elements that each call writes to its answer, and those that `nodes` must have.
+const RULE_ANSWER: usize = 6;
+
+const DAY_ANSWER: usize = 5;
+
+const JUDGE_ANSWER: usize = 4;
+
+const JOB_ANSWER: usize = 5;
+
+const NODES: usize = 128;
+
+// What a call returns that has no room for its answer.
+const UNANSWERED: u64 = 18446744073709551615;
+
+// Reads a rule text.
+#[no_mangle]
+pub extern "C" fn wuz_read_rule(text: &[u8], answer: &mut [u64], nodes: &mut [u64]) -> u64
+    ensures value { λ r. ⌜ ruleEffect r (now (answer .exit)) (now (nodes .exit))
+        ≡ readRule (now (text .entry)) (now (answer .entry)) (now (nodes .entry)) ⌝ }
+    ensures meaning { λ r. ⌜ RuleExport (now (text .entry)) (now (answer .entry)) (now (nodes .entry))
+        (ruleEffect r (now (answer .exit)) (now (nodes .exit))) ⌝ }
+{
+    if answer.len() < RULE_ANSWER || nodes.len() < NODES {
+        return UNANSWERED;
+    }
+    let reading = rule::read(text);
+    let outcome = reading.outcome;
+    let records = reading.nodes;
+    let said = rule::outcome_verdict(outcome);
+    let m = counts::node_count(outcome);
+    let k = counts::special_count(outcome);
+    row::write_six(answer, said, m as u64, k as u64);
+    row::write_nodes(nodes, records, m);
+    said.number
+}
+
+// Reads a day file.
+#[no_mangle]
+pub extern "C" fn wuz_read_day(
+    file: &[u8],
+    letters: &mut [u8],
+    seconds: &mut [u32],
+    answer: &mut [u64],
+) -> u64
+    ensures value { λ r. ⌜ dayEffect r (now (letters .exit)) (now (seconds .exit)) (now (answer .exit))
+        ≡ readDay (now (file .entry)) (now (letters .entry)) (now (seconds .entry)) (now (answer .entry)) ⌝ }
+    ensures meaning { λ r. ⌜ DayExport (now (file .entry)) (now (letters .entry)) (now (seconds .entry)) (now (answer .entry))
+        (dayEffect r (now (letters .exit)) (now (seconds .exit)) (now (answer .exit))) ⌝ }
+{
+    if answer.len() < DAY_ANSWER {
+        return UNANSWERED;
+    }
+    let outcome = day::read(file, letters, seconds);
+    let said = day::outcome_verdict(outcome);
+    let n = counts::event_count(outcome);
+    row::write_five(answer, said, n as u64);
+    said.number
+}
+
+// Judges the spans of a word by a rule.
+#[no_mangle]
+pub extern "C" fn wuz_judge(
+    rule: &[u8],
+    word: &[u8],
+    limit: u64,
+    table: &mut [u64],
+    answer: &mut [u64],
+) -> u64
+    ensures value { λ r. ⌜ judgeEffect r (now (table .exit)) (now (answer .exit))
+        ≡ judgeSpans (now (rule .entry)) (now (word .entry)) limit (now (table .entry)) (now (answer .entry)) ⌝ }
+    ensures meaning { λ r. ⌜ JudgeExport (now (rule .entry)) (now (word .entry)) limit (now (table .entry)) (now (answer .entry))
+        (judgeEffect r (now (table .exit)) (now (answer .exit))) ⌝ }
+{
+    if answer.len() < JUDGE_ANSWER {
+        return UNANSWERED;
+    }
+    let outcome = judge::judge(rule, word, limit, table);
+    let said = judge::outcome_verdict(outcome);
+    row::write_four(answer, said);
+    said.number
+}
+
+// Runs a job.
+#[no_mangle]
+pub extern "C" fn wuz_run_job(job: &[u8], out: &mut [u8], answer: &mut [u64]) -> u64
+    ensures value { λ r. ⌜ jobEffect r (now (out .exit)) (now (answer .exit))
+        ≡ runJob (now (job .entry)) (now (out .entry)) (now (answer .entry)) ⌝ }
+    ensures meaning { λ r. ⌜ JobExport (now (job .entry)) (now (out .entry)) (now (answer .entry))
+        (jobEffect r (now (out .exit)) (now (answer .exit))) ⌝ }
+{
+    if answer.len() < JOB_ANSWER {
+        return UNANSWERED;
+    }
+    let told = job::run(job, out);
+    let said = Verdict {
+        number: told.number,
+        place: told.place,
+        found: told.found,
+        count: told.count,
+    };
+    row::write_five(answer, said, told.n as u64);
+    told.number
+}
