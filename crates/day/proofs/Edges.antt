@@ -1,8 +1,7 @@
 -- The seconds that document 01 names as edges, by computation. Assumes nothing.
-use Prim.Native.Nat.{ℕ}
 use Prim.Native.String.{String}
 use mathlib.Core.Path.{_≡_, refl}
-use mathlib.Core.List.{List, [], _∷_, map}
+use mathlib.Core.List.{[], _∷_, map}
 use Rattle.event.specs.Event.{isEvent}
 use Rattle.event.specs.Leading.{leading}
 use Rattle.event.specs.Text.{bytes}

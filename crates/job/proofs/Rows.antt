@@ -12,7 +12,6 @@ use Rattle.bits.proofs.Digits.{same-or-not}
 use Rattle.event.specs.Event.{Word}
 use Rattle.regex.specs.Tree.{Tree, size, specials}
 use Rattle.rule.specs.RuleAnswer as reader
-use Rattle.rule.specs.RuleAnswer.{RuleAnswer}
 use Rattle.rule.specs.RuleComputed.{ruleAnswer}
 use Rattle.rule.specs.RuleMeaning.{Passed, RuleMeaning}
 use Rattle.rule.specs.RuleMeaning as rule-meaning
@@ -20,7 +19,7 @@ use Rattle.rule.proofs.Answered as rule-answered
 use Rattle.rule.proofs.Rows.{accepting, refusing, refused-number}
 use Rattle.day.specs.DayFile.{DayEvent, letterOf}
 use Rattle.day.specs.DayComputed.{dayAnswer}
-use Rattle.day.specs.DayMeaning.{DayMeaning, Whole}
+use Rattle.day.specs.DayMeaning.{Whole}
 use Rattle.day.specs.DayMeaning as day-meaning
 use Rattle.day.proofs.Answered as day-answered
 use Rattle.day.proofs.Rows as day-rows

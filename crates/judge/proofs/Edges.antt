@@ -1,7 +1,7 @@
 -- The limits that document 01 names as edges, by computation. Assumes nothing.
 use Prim.Native.Nat.{ℕ}
 use mathlib.Core.Path.{_≡_, refl}
-use mathlib.Core.List.{List, [], _∷_, _++_, map}
+use mathlib.Core.List.{[], _∷_, _++_, map}
 use lib.Count.{ones}
 use lib.ListN.{replicate}
 use Rattle.bits.specs.Bit.{onesOf}

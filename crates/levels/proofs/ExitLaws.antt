@@ -1,6 +1,6 @@
 -- Exits to come: those that are due, nodes that are left at every number, and a row joined to them. Assumes nothing.
 use mathlib.Core.Path.{_≡_, refl, sym, ap, ap₂, _∙_}
-use mathlib.Core.Bool.{Bool, true, false, cond, _&&_, _||_, false≢true, true≢false}
+use mathlib.Core.Bool.{Bool, true, false, _&&_, _||_, false≢true, true≢false}
 use mathlib.Core.Logic.{_⊎_, inl, inr, ⊎-elim}
 use mathlib.Core.List.{List}
 use Prim.Native.Nat.{ℕ, _+_, _-_, _*_, _/_, _%_, _^_, _≤_, _<_}
@@ -10,11 +10,11 @@ use lib.Seq.{getD-set-same, getD-set-other}
 use lib.Bits.{bitOr}
 use borrow.Author.Tests.{ltb-true, ltb-false, lt-ltb}
 use Rattle.bits.specs.Bit.{hasBit, bitAt}
-use Rattle.bits.specs.Runs.{Put, Merged, Adds, First}
+use Rattle.bits.specs.Runs.{Put, Adds, First}
 use Rattle.bits.proofs.Digits.{below-or-not, same-or-not, zero-has, has-or, mask-has}
-use Rattle.bits.proofs.Laws.{put-adds, merged-adds, adds-then, adds-as, or-cases}
+use Rattle.bits.proofs.Laws.{put-adds, adds-then, adds-as, or-cases}
 use Rattle.levels.specs.Sets.{Exactly, Among}
-use Rattle.levels.specs.Exits.{DueExit, FullAt, LeftAt, hasSpan}
+use Rattle.levels.specs.Exits.{DueExit, FullAt, hasSpan}
 use Rattle.levels.specs.Private.{Missing, SameStates, PutIf, ExitOf, Gap, PutFull, keptIf, RowJoined, NodeEntered}
 use Rattle.moves.proofs.RowLaws.{word-bit}
 

@@ -37,7 +37,7 @@ pub record HoldsTable (w : Word) (t : Tree) (b : List ℕ) : Type 0 where
   pub special : (u : Tree) → List·Memᴰ u parts ↔ SpecialPart t 0 u
   pub each : length parts ≡ specials t  -- "one block for each special node"
   pub rising : Rising 0 parts
-  pub blocks : (k : ℕ) → k ≤ specials t → HoldsBlock w (getD (t ∷ parts) k t) b (k * blockLength (length w))
+  pub blocks : (i : ℕ) → i ≤ specials t → HoldsBlock w (getD (t ∷ parts) i t) b (i * blockLength (length w))
   pub numbers : (i : ℕ) → i < needOf (specials t) (length w) → getD b i 0 < 2 ^ 64  -- "64-bit numbers"
 
 -- one constructor for each number: what holds at entry, and the whole answer

@@ -15,7 +15,7 @@ use Rattle.bits.proofs.Laws.{merged-adds, adds-then, adds-as, zeros-bit}
 use Rattle.bits.proofs.Packed.{bit-front, bit-behind}
 use Rattle.work.specs.Table.{blockLength}
 use Rattle.table.specs.declared.Block.{Block}
-use Rattle.table.specs.Layout.{spanBit, rowBit, Lies, InBlock, RowSpan, Cleared}
+use Rattle.table.specs.Layout.{spanBit, rowBit, Lies, RowSpan, Cleared}
 
 -- a claim on the four numbers of a row
 by-number : (P : ℕ → Type 0) → P 0 → P 1 → P 2 → P 3 → (h : ℕ) → h < 4 → P h

@@ -1,12 +1,12 @@
 -- The loop over the starts of one owner: what holds before each start, and what it comes to. Assumes nothing.
 use mathlib.Core.Path.{_≡_, refl, sym, ap, _∙_}
-use mathlib.Core.Bool.{Bool, true, false, false≢true, true≢false, cond, _&&_}
+use mathlib.Core.Bool.{Bool, true, false, false≢true, true≢false, cond}
 use mathlib.Core.Logic.{_⊎_, inl, inr, ⊎-elim}
 use mathlib.Core.List.{List}
 use Prim.Native.Nat.{ℕ, zero, suc, _+_, _-_, _*_, _/_, _%_, _≤_, _<_}
 use native.Mathlib.Numerals.{add-one}
 use native.Mathlib.Omega.{arith}
-use lib.Dec.{eqb, leb}
+use lib.Dec.{eqb}
 use lib.ListN.{length, getD, replicate}
 use borrow.Author.Tests.{eq-eqb, ne-eqb, le-leb}
 use Rattle.bits.specs.Bit.{bitAt}
@@ -16,7 +16,7 @@ use Rattle.bits.proofs.Laws.{zeros-bit}
 use Rattle.moves.specs.Reached.{Reached, start, after}
 use Rattle.levels.proofs.SetLaws.{same-bits}
 use Rattle.table.specs.declared.Block.{Block}
-use Rattle.table.specs.Layout.{blockAt, spanBit, Lies, InBlock, SpanAt, RowSpan, Cleared}
+use Rattle.table.specs.Layout.{blockAt, spanBit, InBlock, SpanAt, RowSpan, Cleared}
 use Rattle.table.proofs.LayoutLaws.{span-in, span-one}
 use Rattle.marks.specs.declared.Target.{Target}
 use Rattle.walk.specs.Automaton.{Automaton, FreeStep, LetterStep, SpanStep, Step, Ready}

@@ -1,6 +1,6 @@
 -- One number of a walk, from its parts. Assumes nothing.
 use mathlib.Core.Path.{_≡_, refl, sym, ap, _∙_, subst}
-use mathlib.Core.Bool.{Bool, true, false, false≢true, true≢false, _&&_, _||_}
+use mathlib.Core.Bool.{Bool, true, false, false≢true, true≢false, _&&_}
 use mathlib.Core.Logic.{_⊎_, inl, inr, ⊎-elim}
 use mathlib.Core.List.{List}
 use Prim.Native.Nat.{ℕ, _+_, _-_, _*_, _/_, _%_, _≤_, _<_}
@@ -16,7 +16,7 @@ use Rattle.moves.specs.Moves.{FreeMove}
 use Rattle.table.specs.Layout.{blockAt}
 use Rattle.table.proofs.LayoutLaws.{row-span}
 use Rattle.levels.specs.Sets.{InSet, Exactly, Among, AllLed}
-use Rattle.levels.specs.Exits.{toCome, DueExit, LeftAt, Full, FullAt, hasSpan, SpanHere, StepHere, Entered, Begun, Saturated}
+use Rattle.levels.specs.Exits.{toCome, DueExit, Full, FullAt, hasSpan, SpanHere, StepHere, Entered, Begun, Saturated}
 use Rattle.levels.proofs.SetLaws.{in-set, same-bits}
 use Rattle.walk.specs.Automaton.{Automaton, FreeStep, LetterStep, SpanStep, Step, Ready}
 use Rattle.marks.specs.Marks.{PlaceOf, MarkedAt}

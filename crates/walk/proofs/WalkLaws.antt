@@ -23,7 +23,7 @@ use Rattle.marks.specs.Marks.{NoneAt, Finished, EndsBefore}
 use Rattle.marks.specs.Steps.{WentOn, Stopped}
 use Rattle.walk.specs.Walks.{Pending, MarkedOrDue, SpanExit, LevelSet, Walked}
 use Rattle.marks.proofs.MarkLaws.{tally-level}
-use Rattle.walk.proofs.LevelLaws.{coming-of, open-entry, below-b, only-b, waiting-b, above-b, stays-b, back, closed-c, only-c, above-c}
+use Rattle.walk.proofs.LevelLaws.{coming-of, open-entry, below-b, only-b, waiting-b, back, closed-c, only-c, above-c}
 use Rattle.walk.proofs.LevelLaws.{tally-c}
 
 -- a step does not lead past the word's end

@@ -9,8 +9,9 @@ use native.Mathlib.Nat.{eq-or-lt-of-le}
 use lib.Dec.{ltb}
 use borrow.Author.Tests.{lt-ltb, le-ltb}
 use Rattle.regex.specs.Tree.{Tree, empty, epsilon, letter, union, intersection, concatenation, complement, star, below, size}
-use Rattle.work.specs.Walk.{Owner, whole, special, Owns, of-rule, of-union-left, of-union-right, of-concatenation-left}
-use Rattle.work.specs.Walk.{of-concatenation-right, of-star, of-intersection-left, of-intersection-right, of-complement, StateOf}
+use Rattle.work.specs.Walk.{Owner, whole, special}
+use Rattle.work.specs.Owned.{Owns, of-rule, of-union-left, of-union-right, of-concatenation-left}
+use Rattle.work.specs.Owned.{of-concatenation-right, of-star, of-intersection-left, of-intersection-right, of-complement, StateOf}
 
 -- the owner of a node z: that of the side that has it, or u where z is the root
 abbrev bySide : ℕ → ℕ → Owner → Owner → Owner → ℕ → Owner

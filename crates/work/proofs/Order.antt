@@ -12,7 +12,8 @@ use Rattle.regex.specs.Grammar.{Level, Alt, Reads, alt-conj, alt-bar, conj-seq,
 use Rattle.regex.specs.Grammar.{atom-letter, atom-empty, atom-epsilon, atom-group}
 use Rattle.work.specs.Walk.{Part, itself, union-left, union-right, intersection-left, intersection-right, concatenation-left}
 use Rattle.work.specs.Walk.{concatenation-right, complement-inner, star-inner}
-use Rattle.work.specs.Table.{SpecialPart, Rising, Members}
+use Rattle.work.specs.Table.{SpecialPart, Rising}
+use Rattle.work.specs.TableComputed.{Members}
 use Rattle.work.specs.TableComputed.{specialParts}
 
 -- ---- rising byte offset

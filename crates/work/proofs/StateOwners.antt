@@ -5,8 +5,10 @@ use Prim.Native.Nat.{ℕ, _+_, _≤_}
 use lib.ListN.{length}
 use Rattle.event.specs.Event.{Word}
 use Rattle.regex.specs.Tree.{Tree, empty, epsilon, letter, union, intersection, concatenation, complement, star, size}
-use Rattle.work.specs.Walk.{Owner, whole, special, Owns, of-rule, of-union-left, of-union-right, of-concatenation-left}
-use Rattle.work.specs.Walk.{of-concatenation-right, of-star, of-intersection-left, of-intersection-right, of-complement, StateOf, Reaches}
+use Rattle.work.specs.Walk.{Owner, whole, special}
+use Rattle.work.specs.Owned.{Owns, of-rule, of-union-left, of-union-right, of-concatenation-left}
+use Rattle.work.specs.Walk.{Reaches}
+use Rattle.work.specs.Owned.{of-concatenation-right, of-star, of-intersection-left, of-intersection-right, of-complement, StateOf}
 use Rattle.work.proofs.At.{Exit, Own, Under, At}
 use Rattle.work.proofs.TreeWalk.{TreeWalk}
 use Rattle.work.proofs.Forward.{reached-at}

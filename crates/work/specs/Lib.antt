@@ -5,6 +5,7 @@ pub mod Walk
 pub mod SizeOf
 pub mod Table
 pub mod KnownDays
+pub mod Owned
 -- The same by computation.
 pub mod TableComputed
 pub mod SpansComputed

@@ -1,6 +1,6 @@
 -- Where a span's bit stands in the span table, and what a block holds. Assumes nothing.
 use mathlib.Core.Path.{_≡_}
-use mathlib.Core.List.{List, [], _∷_, List·Memᴰ}
+use mathlib.Core.List.{List, [], _∷_}
 use mathlib.Core.Bool.{true}
 use Prim.Native.Nat.{ℕ, _+_, _*_, suc, _≤_, _<_}
 use lib.Dec.{T}
@@ -35,10 +35,6 @@ SpecialPart t x u = (y : ℕ) × Part t x u y × T (isSpecial u)
 abbrev pub Rising : ℕ → List Tree → Type 0
 Rising lo [] = Unit {0}
 Rising lo (t ∷ l) = (lo ≤ offset t) × Rising (suc (offset t)) l
-
--- every tree of k is one of l
-abbrev pub Members : List Tree → List Tree → Type 0
-Members k l = (u : Tree) → List·Memᴰ u k → List·Memᴰ u l
 
 -- 01: "The judge needs (k + 1) × (n + 1) × 4 numbers"
 abbrev pub needOf : ℕ → ℕ → ℕ

@@ -1,6 +1,6 @@
 -- The span table's numbers, computed. Assumes nothing.
 -- That they hold the blocks, and no others do, are `table-holds` in proofs/TableLaws and `table-only` in proofs/TableOnly.
-use mathlib.Core.List.{List, [], _∷_, _++_}
+use mathlib.Core.List.{List, [], _∷_, _++_, List·Memᴰ}
 use mathlib.Core.Bool.{Bool, _&&_}
 use Prim.Native.Nat.{ℕ, _/_, _%_}
 use lib.Dec.{leb}
@@ -39,6 +39,10 @@ specialParts (intersection o a b) = specialParts a ++ (intersection o a b ∷ sp
 specialParts (concatenation o a b) = specialParts a ++ specialParts b
 specialParts (complement o a) = complement o a ∷ specialParts a
 specialParts (star o a) = specialParts a
+
+-- every tree of l is one of m
+abbrev pub Members : List Tree → List Tree → Type 0
+Members l m = (u : Tree) → List·Memᴰ u l → List·Memᴰ u m
 
 abbrev pub blocks : Word → List Tree → List ℕ
 blocks w [] = []

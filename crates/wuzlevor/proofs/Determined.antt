@@ -15,32 +15,32 @@ use Rattle.judge.specs.JudgeAnswer.{JudgeAnswer}
 use Rattle.job.proofs.Determined as job
 use Rattle.job.specs.JobAnswer.{JobAnswer}
 use Rattle.wuzlevor.specs.ExportComputed.{readRule, readDay, judgeSpans, runJob}
-use Rattle.wuzlevor.specs.Exported.{RuleEffect, ruleTold, RuleExport, rule-short, rule-told}
-use Rattle.wuzlevor.specs.Exported.{DayEffect, dayTold, DayExport, day-short, day-told}
-use Rattle.wuzlevor.specs.Exported.{JudgeEffect, judgeTold, JudgeExport, judge-short, judge-told}
-use Rattle.wuzlevor.specs.Exported.{JobEffect, jobTold, JobExport, job-short, job-told}
+use Rattle.wuzlevor.specs.Exported.{ruleTold, RuleExport, rule-short, rule-told}
+use Rattle.wuzlevor.specs.Exported.{dayTold, DayExport, day-short, day-told}
+use Rattle.wuzlevor.specs.Exported.{judgeTold, JudgeExport, judge-short, judge-told}
+use Rattle.wuzlevor.specs.Exported.{jobTold, JobExport, job-short, job-told}
 
-pub rule-is : {text answer nodes : List ℕ} {e : RuleEffect} → RuleExport text answer nodes e → e ≡ readRule text answer nodes
+pub rule-is : {text answer nodes : List ℕ} {e : ℕ × List ℕ × List ℕ} → RuleExport text answer nodes e → e ≡ readRule text answer nodes
 unfolding readRule
 rule-is {answer = answer} (rule-short (inl h)) = simp (lt-ltb (length answer) 6 h)
 rule-is {nodes = nodes} (rule-short (inr h)) = simp (lt-ltb (length nodes) 128 h, or-true)
 rule-is {answer = answer} {nodes = nodes} (rule-told a n m) =
     ap (λ (x : RuleAnswer). ruleTold x answer nodes) (rule.answer-is m) ∙ simp (le-ltb (length answer) 6 a, le-ltb (length nodes) 128 n)
 
-pub day-is : {file letters seconds answer : List ℕ} {e : DayEffect} → DayExport file letters seconds answer e
+pub day-is : {file letters seconds answer : List ℕ} {e : ℕ × List ℕ × List ℕ × List ℕ} → DayExport file letters seconds answer e
     → e ≡ readDay file letters seconds answer
 unfolding readDay
 day-is {answer = answer} (day-short h) = simp (lt-ltb (length answer) 5 h)
 day-is {answer = answer} (day-told h m) = ap (λ (x : DayAnswer). dayTold x answer) (day.answer-is m) ∙ simp (le-ltb (length answer) 5 h)
 
-pub judge-is : {rule word : List ℕ} {limit : ℕ} {table answer : List ℕ} {e : JudgeEffect} → JudgeExport rule word limit table answer e
+pub judge-is : {rule word : List ℕ} {limit : ℕ} {table answer : List ℕ} {e : ℕ × List ℕ × List ℕ} → JudgeExport rule word limit table answer e
     → e ≡ judgeSpans rule word limit table answer
 unfolding judgeSpans
 judge-is {answer = answer} (judge-short h) = simp (lt-ltb (length answer) 4 h)
 judge-is {answer = answer} (judge-told h m) =
     ap (λ (x : JudgeAnswer). judgeTold x answer) (judge.answer-is m) ∙ simp (le-ltb (length answer) 4 h)
 
-pub job-is : {job out answer : List ℕ} {e : JobEffect} → JobExport job out answer e → e ≡ runJob job out answer
+pub job-is : {job out answer : List ℕ} {e : ℕ × List ℕ × List ℕ} → JobExport job out answer e → e ≡ runJob job out answer
 unfolding runJob
 job-is {answer = answer} (job-short h) = simp (lt-ltb (length answer) 5 h)
 job-is {answer = answer} (job-told h m) = ap (λ (x : JobAnswer). jobTold x answer) (job.answer-is m) ∙ simp (le-ltb (length answer) 5 h)

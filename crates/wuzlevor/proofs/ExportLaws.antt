@@ -29,11 +29,12 @@ use Rattle.job.specs.JobComputed.{jobAnswer}
 use Rattle.job.specs.JobMeaning.{JobMeaning}
 use Rattle.job.specs.declared.Answer as jobs
 use Rattle.verdict.specs.declared.Verdict.{Verdict}
-use Rattle.wuzlevor.specs.Told.{over, verdictRow, nodeRow}
-use Rattle.wuzlevor.specs.Exported.{unanswered, ruleEffect, ruleTold, RuleExport, rule-short, rule-told}
-use Rattle.wuzlevor.specs.Exported.{dayEffect, dayTold, DayExport, day-short, day-told}
-use Rattle.wuzlevor.specs.Exported.{judgeEffect, judgeTold, JudgeExport, judge-short, judge-told}
-use Rattle.wuzlevor.specs.Exported.{jobEffect, jobTold, JobExport, job-short, job-told}
+use Rattle.wuzlevor.specs.Told.{over, nodeRow}
+use Rattle.wuzlevor.specs.ExportComputed.{verdictRow}
+use Rattle.wuzlevor.specs.Exported.{unanswered, ruleTold, RuleExport, rule-short, rule-told}
+use Rattle.wuzlevor.specs.Exported.{dayTold, DayExport, day-short, day-told}
+use Rattle.wuzlevor.specs.Exported.{judgeTold, JudgeExport, judge-short, judge-told}
+use Rattle.wuzlevor.specs.Exported.{jobTold, JobExport, job-short, job-told}
 use Rattle.wuzlevor.specs.ExportComputed.{readRule, readDay, judgeSpans, runJob}
 
 -- the two clauses of a contract, for an effect b that tells the answer x
@@ -48,7 +49,7 @@ rule-fits r means e = let s = sizes means .0 in (omega arith, records-many means
 
 module _ {text answer nodes : List ℕ} where
   pub rule-returns : (length answer < 6) ⊎ (length nodes < 128)
-      → (ruleEffect unanswered answer nodes ≡ readRule text answer nodes) × RuleExport text answer nodes (ruleEffect unanswered answer nodes)
+      → ((unanswered, answer, nodes) ≡ readRule text answer nodes) × RuleExport text answer nodes (unanswered, answer, nodes)
   unfolding readRule
   rule-returns (inl h) = (simp (lt-ltb (length answer) 6 h), rule-short (inl h))
   rule-returns (inr h) = (simp (lt-ltb (length nodes) 128 h, or-true), rule-short (inr h))
@@ -57,68 +58,68 @@ module _ {text answer nodes : List ℕ} where
       → ruleValues (r .outcome) (r .nodes) ≡ ruleAnswer text → RuleMeaning text (ruleValues (r .outcome) (r .nodes))
       → v ≡ rule.outcomeVerdict (r .outcome) → m ≡ nodeCount (r .outcome) → k ≡ specialCount (r .outcome)
       → a ≡ over (verdictRow v ++ m ∷ k ∷ []) answer → n ≡ over (nodeRow (take m (r .nodes))) nodes
-      → (ruleEffect (v .number) a n ≡ readRule text answer nodes) × RuleExport text answer nodes (ruleEffect (v .number) a n)
+      → ((v .number, a, n) ≡ readRule text answer nodes) × RuleExport text answer nodes (v .number, a, n)
   unfolding readRule
   rule-writes {a} {n} r {v} {m} {k} h l e means s em ek wa wn =
       both (RuleExport text answer nodes)
-      (ap₂ (ruleEffect (v .number)) wa wn
-      ∙ ap (λ (x : Verdict). ruleEffect (x .number) (over (verdictRow x ++ m ∷ k ∷ []) answer) (over (nodeRow (take m (r .nodes))) nodes)) s
+      (ap₂ (λ (x y : List ℕ). (v .number, x, y)) wa wn
+      ∙ ap (λ (x : Verdict). (x .number, over (verdictRow x ++ m ∷ k ∷ []) answer, over (nodeRow (take m (r .nodes))) nodes)) s
       ∙ ap₂ (λ (x y : ℕ). ruleTold (rule.told (rule.outcomeVerdict (r .outcome)) x y (r .nodes)) answer nodes) em ek)
       (ap (λ (x : RuleAnswer). ruleTold x answer nodes) e ∙ simp (le-ltb (length answer) 6 h, le-ltb (length nodes) 128 l))
       (rule-told h l means)
 
 -- ---- wuz_read_day
 module _ {file letters seconds answer : List ℕ} where
-  pub day-returns : length answer < 5 → (dayEffect unanswered letters seconds answer ≡ readDay file letters seconds answer)
-      × DayExport file letters seconds answer (dayEffect unanswered letters seconds answer)
+  pub day-returns : length answer < 5 → ((unanswered, letters, seconds, answer) ≡ readDay file letters seconds answer)
+      × DayExport file letters seconds answer (unanswered, letters, seconds, answer)
   unfolding readDay
   day-returns h = (simp (lt-ltb (length answer) 5 h), day-short h)
 
   pub day-writes : {ls ss a : List ℕ} {v : Verdict} {n : ℕ} (o : day-reader.Outcome) → 5 ≤ length answer
       → dayValues o ls ss ≡ dayAnswer file letters seconds → DayMeaning file letters seconds (dayValues o ls ss)
       → v ≡ day.outcomeVerdict o → n ≡ eventCount o → a ≡ over (verdictRow v ++ n ∷ []) answer
-      → (dayEffect (v .number) ls ss a ≡ readDay file letters seconds answer)
-      × DayExport file letters seconds answer (dayEffect (v .number) ls ss a)
+      → ((v .number, ls, ss, a) ≡ readDay file letters seconds answer)
+      × DayExport file letters seconds answer (v .number, ls, ss, a)
   unfolding readDay
   day-writes {ls} {ss} {a} {v} {n} o h e means s en w =
       both (DayExport file letters seconds answer)
-      (ap (dayEffect (v .number) ls ss) w
-      ∙ ap (λ (x : Verdict). dayEffect (x .number) ls ss (over (verdictRow x ++ n ∷ []) answer)) s
+      (ap (λ (x : List ℕ). (v .number, ls, ss, x)) w
+      ∙ ap (λ (x : Verdict). (x .number, ls, ss, over (verdictRow x ++ n ∷ []) answer)) s
       ∙ ap (λ (x : ℕ). dayTold (day.told (day.outcomeVerdict o) x ls ss) answer) en)
       (ap (λ (x : DayAnswer). dayTold x answer) e ∙ simp (le-ltb (length answer) 5 h))
       (day-told h means)
 
 -- ---- wuz_judge
 module _ {rule word : List ℕ} {limit : ℕ} {table answer : List ℕ} where
-  pub judge-returns : length answer < 4 → (judgeEffect unanswered table answer ≡ judgeSpans rule word limit table answer)
-      × JudgeExport rule word limit table answer (judgeEffect unanswered table answer)
+  pub judge-returns : length answer < 4 → ((unanswered, table, answer) ≡ judgeSpans rule word limit table answer)
+      × JudgeExport rule word limit table answer (unanswered, table, answer)
   unfolding judgeSpans
   judge-returns h = (simp (lt-ltb (length answer) 4 h), judge-short h)
 
   pub judge-writes : {t a : List ℕ} {v : Verdict} (o : judge-type.Outcome) → 4 ≤ length answer
       → judgeValues o t ≡ judgeAnswer rule word limit table → JudgeMeaning rule word limit table (judgeValues o t)
       → v ≡ judge.outcomeVerdict o → a ≡ over (verdictRow v) answer
-      → (judgeEffect (v .number) t a ≡ judgeSpans rule word limit table answer)
-      × JudgeExport rule word limit table answer (judgeEffect (v .number) t a)
+      → ((v .number, t, a) ≡ judgeSpans rule word limit table answer)
+      × JudgeExport rule word limit table answer (v .number, t, a)
   unfolding judgeSpans
   judge-writes {t} {a} {v} o h e means s w =
       both (JudgeExport rule word limit table answer)
-      (ap (judgeEffect (v .number) t) w ∙ ap (λ (x : Verdict). judgeEffect (x .number) t (over (verdictRow x) answer)) s)
+      (ap (λ (x : List ℕ). (v .number, t, x)) w ∙ ap (λ (x : Verdict). (x .number, t, over (verdictRow x) answer)) s)
       (ap (λ (x : JudgeAnswer). judgeTold x answer) e ∙ simp (le-ltb (length answer) 4 h))
       (judge-told h means)
 
 -- ---- wuz_run_job
 module _ {job out answer : List ℕ} where
   pub job-returns : length answer < 5
-      → (jobEffect unanswered out answer ≡ runJob job out answer) × JobExport job out answer (jobEffect unanswered out answer)
+      → ((unanswered, out, answer) ≡ runJob job out answer) × JobExport job out answer (unanswered, out, answer)
   unfolding runJob
   job-returns h = (simp (lt-ltb (length answer) 5 h), job-short h)
 
   pub job-writes : {o a : List ℕ} (r : jobs.Answer) → 5 ≤ length answer
       → jobValues r o ≡ jobAnswer job out → JobMeaning job out (jobValues r o)
       → a ≡ over (r .number ∷ r .place ∷ r .found ∷ r .count ∷ r .n ∷ []) answer
-      → (jobEffect (r .number) o a ≡ runJob job out answer) × JobExport job out answer (jobEffect (r .number) o a)
+      → ((r .number, o, a) ≡ runJob job out answer) × JobExport job out answer (r .number, o, a)
   unfolding runJob
   job-writes {o} r h e means w =
-      both (JobExport job out answer) (ap (jobEffect (r .number) o) w)
+      both (JobExport job out answer) (ap (λ (x : List ℕ). (r .number, o, x)) w)
       (ap (λ (x : JobAnswer). jobTold x answer) e ∙ simp (le-ltb (length answer) 5 h)) (job-told h means)

@@ -20,73 +20,40 @@ abbrev pub unanswered : ℕ
 unanswered = 18446744073709551615
 
 -- ---- wuz_read_rule: what is returned, and the buffers `answer` and `nodes`
-pub record RuleEffect : Type 0 where
-  pub returned : ℕ
-  pub answer : List ℕ
-  pub nodes : List ℕ
-
-abbrev pub ruleEffect : ℕ → List ℕ → List ℕ → RuleEffect
-ruleEffect returned answer nodes = record { returned = returned; answer = answer; nodes = nodes }
-
-abbrev pub ruleTold : RuleAnswer → List ℕ → List ℕ → RuleEffect
-ruleTold a answer nodes = ruleEffect (a .number) (over (ruleRow a) answer) (over (ruleNodes a) nodes)
+abbrev pub ruleTold : RuleAnswer → List ℕ → List ℕ → ℕ × List ℕ × List ℕ
+ruleTold a answer nodes = (a .number, over (ruleRow a) answer, over (ruleNodes a) nodes)
 
 -- of a text and the two buffers at entry
-pub data RuleExport (text answer nodes : List ℕ) : RuleEffect → Type 0 where
-  rule-short : (length answer < 6) ⊎ (length nodes < 128) → RuleExport text answer nodes (ruleEffect unanswered answer nodes)
+pub data RuleExport (text answer nodes : List ℕ) : ℕ × List ℕ × List ℕ → Type 0 where
+  rule-short : (length answer < 6) ⊎ (length nodes < 128) → RuleExport text answer nodes (unanswered, answer, nodes)
   rule-told : {a : RuleAnswer} → 6 ≤ length answer → 128 ≤ length nodes → RuleMeaning text a
       → RuleExport text answer nodes (ruleTold a answer nodes)
 
 -- ---- wuz_read_day: what is returned, and the buffers `letters`, `seconds` and `answer`
-pub record DayEffect : Type 0 where
-  pub returned : ℕ
-  pub letters : List ℕ
-  pub seconds : List ℕ
-  pub answer : List ℕ
-
-abbrev pub dayEffect : ℕ → List ℕ → List ℕ → List ℕ → DayEffect
-dayEffect returned letters seconds answer = record { returned = returned; letters = letters; seconds = seconds; answer = answer }
-
-abbrev pub dayTold : DayAnswer → List ℕ → DayEffect
-dayTold a answer = dayEffect (a .number) (a .letters) (a .seconds) (over (dayRow a) answer)
+abbrev pub dayTold : DayAnswer → List ℕ → ℕ × List ℕ × List ℕ × List ℕ
+dayTold a answer = (a .number, a .letters, a .seconds, over (dayRow a) answer)
 
 -- of a file and the three buffers at entry
-pub data DayExport (file letters seconds answer : List ℕ) : DayEffect → Type 0 where
-  day-short : length answer < 5 → DayExport file letters seconds answer (dayEffect unanswered letters seconds answer)
+pub data DayExport (file letters seconds answer : List ℕ) : ℕ × List ℕ × List ℕ × List ℕ → Type 0 where
+  day-short : length answer < 5 → DayExport file letters seconds answer (unanswered, letters, seconds, answer)
   day-told : {a : DayAnswer} → 5 ≤ length answer → DayMeaning file letters seconds a
       → DayExport file letters seconds answer (dayTold a answer)
 
 -- ---- wuz_judge: what is returned, and the buffers `table` and `answer`
-pub record JudgeEffect : Type 0 where
-  pub returned : ℕ
-  pub table : List ℕ
-  pub answer : List ℕ
-
-abbrev pub judgeEffect : ℕ → List ℕ → List ℕ → JudgeEffect
-judgeEffect returned table answer = record { returned = returned; table = table; answer = answer }
-
-abbrev pub judgeTold : JudgeAnswer → List ℕ → JudgeEffect
-judgeTold a answer = judgeEffect (a .number) (a .table) (over (judgeRow a) answer)
+abbrev pub judgeTold : JudgeAnswer → List ℕ → ℕ × List ℕ × List ℕ
+judgeTold a answer = (a .number, a .table, over (judgeRow a) answer)
 
 -- of a rule, a word, a limit and the two buffers at entry
-pub data JudgeExport (rule word : List ℕ) (limit : ℕ) (table answer : List ℕ) : JudgeEffect → Type 0 where
-  judge-short : length answer < 4 → JudgeExport rule word limit table answer (judgeEffect unanswered table answer)
+pub data JudgeExport (rule word : List ℕ) (limit : ℕ) (table answer : List ℕ) : ℕ × List ℕ × List ℕ → Type 0 where
+  judge-short : length answer < 4 → JudgeExport rule word limit table answer (unanswered, table, answer)
   judge-told : {a : JudgeAnswer} → 4 ≤ length answer → JudgeMeaning rule word limit table a
       → JudgeExport rule word limit table answer (judgeTold a answer)
 
 -- ---- wuz_run_job: what is returned, and the buffers `out` and `answer`
-pub record JobEffect : Type 0 where
-  pub returned : ℕ
-  pub out : List ℕ
-  pub answer : List ℕ
-
-abbrev pub jobEffect : ℕ → List ℕ → List ℕ → JobEffect
-jobEffect returned out answer = record { returned = returned; out = out; answer = answer }
-
-abbrev pub jobTold : JobAnswer → List ℕ → JobEffect
-jobTold a answer = jobEffect (a .number) (a .out) (over (jobRow a) answer)
+abbrev pub jobTold : JobAnswer → List ℕ → ℕ × List ℕ × List ℕ
+jobTold a answer = (a .number, a .out, over (jobRow a) answer)
 
 -- of a job and the two buffers at entry
-pub data JobExport (job out answer : List ℕ) : JobEffect → Type 0 where
-  job-short : length answer < 5 → JobExport job out answer (jobEffect unanswered out answer)
+pub data JobExport (job out answer : List ℕ) : ℕ × List ℕ × List ℕ → Type 0 where
+  job-short : length answer < 5 → JobExport job out answer (unanswered, out, answer)
   job-told : {a : JobAnswer} → 5 ≤ length answer → JobMeaning job out a → JobExport job out answer (jobTold a answer)

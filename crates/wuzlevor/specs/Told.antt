@@ -4,7 +4,6 @@ use mathlib.Core.List.{List, [], _∷_, _++_}
 use lib.ListN.{length, take, drop}
 use Rattle.regex.specs.KindNumber.{kindNumber}
 use Rattle.regex.specs.declared.Node.{Node}
-use Rattle.verdict.specs.declared.Verdict.{Verdict}
 use Rattle.rule.specs.RuleAnswer.{RuleAnswer}
 use Rattle.day.specs.DayAnswer.{DayAnswer}
 use Rattle.judge.specs.JudgeAnswer.{JudgeAnswer}
@@ -20,9 +19,6 @@ nodeRow [] = []
 nodeRow (x ∷ l) = x .offset ∷ kindNumber (x .kind) ∷ nodeRow l
 
 -- wuzlevor.h: "that number, place, found, count, and then values of its own"
-abbrev pub verdictRow : Verdict → List ℕ
-verdictRow v = v .number ∷ v .place ∷ v .found ∷ v .count ∷ []
-
 abbrev pub ruleRow : RuleAnswer → List ℕ
 ruleRow a = a .number ∷ a .place ∷ a .found ∷ a .count ∷ a .m ∷ a .k ∷ []
 

@@ -5,8 +5,7 @@ mod row;
 
 use verdict::Verdict;
 ghost use mathlib.Core.Path.{_≡_};
-ghost use Rattle.wuzlevor.specs.Exported.{ruleEffect, RuleExport, dayEffect, DayExport};
-ghost use Rattle.wuzlevor.specs.Exported.{judgeEffect, JudgeExport, jobEffect, JobExport};
+ghost use Rattle.wuzlevor.specs.Exported.{RuleExport, DayExport, JudgeExport, JobExport};
 ghost use Rattle.wuzlevor.specs.ExportComputed.{readRule, readDay, judgeSpans, runJob};
 
 // The elements that each call writes to its answer, and those that `nodes` must have.
@@ -26,10 +25,10 @@ const UNANSWERED: u64 = 18446744073709551615;
 // Reads a rule text.
 #[no_mangle]
 pub extern "C" fn wuz_read_rule(text: &[u8], answer: &mut [u64], nodes: &mut [u64]) -> u64
-    ensures value { λ r. ⌜ ruleEffect r (now (answer .exit)) (now (nodes .exit))
+    ensures value { λ r. ⌜ (r, now (answer .exit), now (nodes .exit))
         ≡ readRule (now (text .entry)) (now (answer .entry)) (now (nodes .entry)) ⌝ }
     ensures meaning { λ r. ⌜ RuleExport (now (text .entry)) (now (answer .entry)) (now (nodes .entry))
-        (ruleEffect r (now (answer .exit)) (now (nodes .exit))) ⌝ }
+        (r, now (answer .exit), now (nodes .exit)) ⌝ }
 {
     if answer.len() < RULE_ANSWER || nodes.len() < NODES {
         return UNANSWERED;
@@ -53,10 +52,10 @@ pub extern "C" fn wuz_read_day(
     seconds: &mut [u32],
     answer: &mut [u64],
 ) -> u64
-    ensures value { λ r. ⌜ dayEffect r (now (letters .exit)) (now (seconds .exit)) (now (answer .exit))
+    ensures value { λ r. ⌜ (r, now (letters .exit), now (seconds .exit), now (answer .exit))
         ≡ readDay (now (file .entry)) (now (letters .entry)) (now (seconds .entry)) (now (answer .entry)) ⌝ }
     ensures meaning { λ r. ⌜ DayExport (now (file .entry)) (now (letters .entry)) (now (seconds .entry)) (now (answer .entry))
-        (dayEffect r (now (letters .exit)) (now (seconds .exit)) (now (answer .exit))) ⌝ }
+        (r, now (letters .exit), now (seconds .exit), now (answer .exit)) ⌝ }
 {
     if answer.len() < DAY_ANSWER {
         return UNANSWERED;
@@ -77,10 +76,10 @@ pub extern "C" fn wuz_judge(
     table: &mut [u64],
     answer: &mut [u64],
 ) -> u64
-    ensures value { λ r. ⌜ judgeEffect r (now (table .exit)) (now (answer .exit))
+    ensures value { λ r. ⌜ (r, now (table .exit), now (answer .exit))
         ≡ judgeSpans (now (rule .entry)) (now (word .entry)) limit (now (table .entry)) (now (answer .entry)) ⌝ }
     ensures meaning { λ r. ⌜ JudgeExport (now (rule .entry)) (now (word .entry)) limit (now (table .entry)) (now (answer .entry))
-        (judgeEffect r (now (table .exit)) (now (answer .exit))) ⌝ }
+        (r, now (table .exit), now (answer .exit)) ⌝ }
 {
     if answer.len() < JUDGE_ANSWER {
         return UNANSWERED;
@@ -94,10 +93,10 @@ pub extern "C" fn wuz_judge(
 // Runs a job.
 #[no_mangle]
 pub extern "C" fn wuz_run_job(job: &[u8], out: &mut [u8], answer: &mut [u64]) -> u64
-    ensures value { λ r. ⌜ jobEffect r (now (out .exit)) (now (answer .exit))
+    ensures value { λ r. ⌜ (r, now (out .exit), now (answer .exit))
         ≡ runJob (now (job .entry)) (now (out .entry)) (now (answer .entry)) ⌝ }
     ensures meaning { λ r. ⌜ JobExport (now (job .entry)) (now (out .entry)) (now (answer .entry))
-        (jobEffect r (now (out .exit)) (now (answer .exit))) ⌝ }
+        (r, now (out .exit), now (answer .exit)) ⌝ }
 {
     if answer.len() < JOB_ANSWER {
         return UNANSWERED;

@@ -6,7 +6,8 @@ ghost use mathlib.Core.Path.{_≡_};
 ghost use mathlib.Core.List.{[], _∷_, _++_};
 ghost use Prim.Native.Nat.{_≤_};
 ghost use lib.ListN.{length, take};
-ghost use Rattle.wuzlevor.specs.Told.{over, verdictRow, nodeRow};
+ghost use Rattle.wuzlevor.specs.Told.{over, nodeRow};
+ghost use Rattle.wuzlevor.specs.ExportComputed.{verdictRow};
 
 // Number, place, found and count.
 pub fn write_four(answer: &mut [u64], said: Verdict)

@@ -1,5 +1,5 @@
 -- `next_states` goes by the letters' part. Assumes nothing.
-use mathlib.Core.Path.{ap, subst}
+use mathlib.Core.Path.{subst}
 use Prim.Native.Nat.{ℕ}
 use lib.ListN.{drop, length-drop}
 use lib.Seq.{length-take-le}

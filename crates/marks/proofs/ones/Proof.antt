@@ -2,7 +2,6 @@
 use lib.Count.{ones-le}
 use native.Mathlib.Omega.{arith}
 use Rattle.bits.proofs.Packed.{number-ones}
-use borrow.Author.Needs.{needs}
 use Rattle.marks.proofs.ones.Statement.{statement}
 use Rattle.marks.proofs.ones.Tie as tie
 

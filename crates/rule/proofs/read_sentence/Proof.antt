@@ -1,6 +1,6 @@
 -- `read_sentence` is the definition `sized` of the text's tree. Assumes nothing.
 use native.Mathlib.Omega.{arith}
-use mathlib.Core.Path.{sym, ap, _∙_}
+use mathlib.Core.Path.{sym, _∙_}
 use borrow.Author.Tests.{lt-ltb, le-ltb}
 use borrow.Author.Needs.{needs}
 use Rattle.regex.specs.Tree.{size, specials}

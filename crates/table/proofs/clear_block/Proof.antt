@@ -1,6 +1,5 @@
 -- `clear-block-spec`. Assumes nothing.
 use borrow.Author.Needs.{needs}
-use native.Mathlib.Omega.{arith}
 use Rattle.table.proofs.Rows.{clear-law}
 use Rattle.table.proofs.clear_block.Statement.{statement}
 use Rattle.table.proofs.clear_block.Tie as tie

@@ -4,7 +4,7 @@ use mathlib.Core.List.{List}
 use Prim.Native.Nat.{ℕ, _+_, _-_}
 use lib.ListN.{length}
 use native.Mathlib.Omega.{arith}
-use Rattle.table.specs.Layout.{Lies, Cleared}
+use Rattle.table.specs.Layout.{Cleared}
 use Rattle.levels.specs.AutomatonParts.{closedPart}
 use Rattle.walk.specs.Automaton.{automatonOf, Ready}
 use Rattle.walk.specs.Filled.{blockOf, Apart}

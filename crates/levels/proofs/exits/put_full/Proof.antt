@@ -1,5 +1,4 @@
 -- `put_full` puts an entry, or leaves the full ones. Assumes nothing.
-use native.Mathlib.Omega.{arith}
 use Rattle.levels.proofs.ExitLaws.{put-full-law, put-full-none}
 use borrow.Author.Needs.{needs}
 use Rattle.levels.proofs.exits.put_full.Statement.{statement}

@@ -1,6 +1,5 @@
 -- `level` comes to what is reached at one number. Assumes nothing.
 use mathlib.Core.Path.{sym, _∙_}
-use lib.ListN.{length}
 use native.Mathlib.Omega.{arith}
 use Rattle.walk.specs.Automaton.{automatonOf}
 use Rattle.walk.proofs.LevelLaws.{full-at, level-begun, level-law, level-full}

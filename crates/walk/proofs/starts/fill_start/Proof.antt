@@ -1,5 +1,4 @@
 -- `fill_start` walks, or has the initial states alone. Assumes nothing.
-use native.Mathlib.Omega.{arith}
 use Rattle.walk.proofs.EndLaws.{ended-started}
 use borrow.Author.Needs.{needs}
 use Rattle.walk.proofs.starts.fill_start.Statement.{statement}

@@ -1,7 +1,6 @@
 -- `fill_walked` walks from one start, and adds its row. Assumes nothing.
 use mathlib.Core.Path.{refl, sym, _∙_}
 use mathlib.Core.Bool.{true≢false, false≢true}
-use native.Mathlib.Omega.{arith}
 use Rattle.walk.proofs.StartLaws.{starts-at, started}
 use Rattle.marks.proofs.RowLaws.{row-spans}
 use borrow.Author.Needs.{needs}

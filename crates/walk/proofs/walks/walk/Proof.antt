@@ -1,5 +1,5 @@
 -- `walk` goes through the numbers from i on, until nothing is left or the limit is passed. Assumes nothing.
-use mathlib.Core.Path.{_≡_, sym, _∙_, subst}
+use mathlib.Core.Path.{sym, _∙_}
 use mathlib.Core.Bool.{true, false, true≢false}
 use Prim.Native.Nat.{_+_, _-_}
 use lib.ListN.{length}
@@ -7,7 +7,7 @@ use native.Mathlib.Omega.{arith}
 use Rattle.levels.specs.AutomatonParts.{closedPart}
 use Rattle.levels.specs.Exits.{Full}
 use Rattle.walk.specs.Automaton.{automatonOf}
-use Rattle.walk.specs.Walks.{Remembered, Walked}
+use Rattle.walk.specs.Walks.{Remembered}
 use Rattle.walk.proofs.WalkLaws.{Before, full-start, before-start, before-turn, before-spent, before-end, end-ends, none-ends, before-finished}
 use borrow.Author.Needs.{needs}
 use Rattle.walk.proofs.walks.walk.Statement.{statement}

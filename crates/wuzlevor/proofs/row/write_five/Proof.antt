@@ -1,7 +1,7 @@
 -- `write_five` stores one number behind four. Assumes nothing.
 use native.Mathlib.Omega.{arith}
 use borrow.Author.Needs.{needs}
-use Rattle.wuzlevor.specs.Told.{verdictRow}
+use Rattle.wuzlevor.specs.ExportComputed.{verdictRow}
 use Rattle.wuzlevor.proofs.RowLaws.{over-next}
 use Rattle.wuzlevor.proofs.row.write_five.Statement.{statement}
 use Rattle.wuzlevor.proofs.row.write_five.Tie as tie

@@ -2,7 +2,7 @@
 use native.Mathlib.Omega.{arith}
 use mathlib.Core.List.{[], _∷_, _++_}
 use borrow.Author.Needs.{needs}
-use Rattle.wuzlevor.specs.Told.{verdictRow}
+use Rattle.wuzlevor.specs.ExportComputed.{verdictRow}
 use Rattle.wuzlevor.proofs.RowLaws.{over-next}
 use Rattle.wuzlevor.proofs.row.write_six.Statement.{statement}
 use Rattle.wuzlevor.proofs.row.write_six.Tie as tie
