@@ -37,7 +37,7 @@ library:
 PREFIX ?= /usr/local
 install: library
 	@rt check checker | grep --line-buffered -E '^rt:|error'
-	@scripts/install $(PREFIX)
+	@scripts/install "$(PREFIX)"
 
 second:
 	cd second && cargo build --offline --release

@@ -1,4 +1,4 @@
-// Runs cases from standard input through the public calls and prints the answers: the two readers and the judge on the edges of document 01.
+// Runs a stream of cases from standard input through the public calls, the two readers and the judge, and prints the answers.
 // second/README.md says how cases and answers are written.
 mod cases;
 mod judgements;

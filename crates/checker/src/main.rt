@@ -8,6 +8,7 @@ ghost use mathlib.Core.Path.{_≡_};
 ghost use Prim.Native.Nat.{_≤_};
 ghost use lib.ListN.{length, take};
 ghost use Rattle.job.specs.JobComputed.{jobText};
+ghost use Rattle.job.specs.JobMeaning.{Writes};
 ghost use Rattle.checker.specs.Transfers.{Within};
 
 // 01: "at most 2,809 bytes (what follows is unread and the job is what was read)".
@@ -103,7 +104,8 @@ fn write_some(text: &[u8]) -> Transfer
 // Puts the whole text that a job comes to at the front of a buffer, and answers its length.
 fn answer(job: &[u8], out: &mut [u8]) -> usize
     requires { ⌜ 328985 ≤ length (now out) ⌝ }
-    ensures { λ r. ⌜ (take r (now (out .exit)) ≡ jobText (now (job .entry))) × (r ≤ length (now (out .exit))) ⌝ }
+    ensures value { λ r. ⌜ (take r (now (out .exit)) ≡ jobText (now (job .entry))) × (r ≤ length (now (out .exit))) ⌝ }
+    ensures meaning { λ r. ⌜ Writes (now (job .entry)) (take r (now (out .exit))) ⌝ }
 {
     let answer = job::run(job, out);
     if answer.number == 0 {

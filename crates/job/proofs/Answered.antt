@@ -12,14 +12,12 @@ use Rattle.regex.specs.Tree.{Tree}
 use Rattle.day.specs.DayFile.{letterOf}
 use Rattle.work.specs.Count.{fullCount}
 use Rattle.work.specs.TableComputed.{found}
-use Rattle.rule.proofs.Rows.{refused-number}
+use Rattle.job.proofs.Rows.{Comes, at-row, at-judge, comes, result-refused, refused-above, result-judged}
 use Rattle.job.specs.JobAnswer.{JobAnswer, refusal, acceptance}
 use Rattle.job.specs.JobComputed.{refused, jobResult, jobAnswer}
-use Rattle.job.specs.JobMeaning.{Judged, JobMeaning, no-rule-line, rule-refused, day-refused, short-buffer, accepted}
+use Rattle.job.specs.JobMeaning.{Judged, JobMeaning, row-refused, short-buffer, accepted}
 use Rattle.job.specs.FirstBlock.{text}
 use Rattle.job.proofs.Listed.{lists-text}
-use Rattle.job.proofs.Rows.{result-none, result-rule, result-day, result-judged}
-use Rattle.job.proofs.Rows.{Comes, no-line, at-rule, at-day, at-judge, comes}
 use Rattle.job.proofs.Steps.{refused-written}
 
 -- the events of a day that passes are few
@@ -43,11 +41,7 @@ module _ (s old : List ℕ) where
 
 -- ---- its meaning
 means : (s old : List ℕ) → Comes s → JobMeaning s old (jobAnswer s old)
-means s old (no-line h) = subst (JobMeaning s old) (at-refusal s old (result-none h) (λ e. omega arith)) (no-rule-line h)
-means s old (at-rule d m) =
-    subst (JobMeaning s old) (at-refusal s old (result-rule d m) (refused-number m)) (rule-refused d m)
-means s old (at-day d p m) =
-    subst (JobMeaning s old) (at-refusal s old (result-day d p m) (λ e. omega (arith, m .refused))) (day-refused d p m)
+means s old (at-row r) = subst (JobMeaning s old) (at-refusal s old (result-refused r) (refused-above r)) (row-refused r)
 means s old (at-judge {t = t} {w = w} j) =
     let l = lists-text w t (judged-short j) in
     ⊎-elim

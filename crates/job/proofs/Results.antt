@@ -27,19 +27,22 @@ use Rattle.job.specs.declared.Answer.{Answer}
 use Rattle.job.specs.JobAnswer.{JobAnswer, jobValues}
 use Rattle.job.specs.JobComputed.{refused, limitOf, jobAnswer, jobResult, jobText}
 use Rattle.rule.specs.RuleMeaning.{Passed}
-use Rattle.job.specs.JobMeaning.{Judged, JobMeaning, no-rule-line, rule-refused, day-refused, short-buffer, accepted}
+use Rattle.job.specs.JobMeaning.{Judged, JobRefused, no-rule-line, rule-refused, day-refused, JobMeaning, row-refused, short-buffer}
+use Rattle.job.specs.JobMeaning.{accepted, Writes, writes-list, writes-refusal}
 use Rattle.job.proofs.Answered.{answer-means, judged-short, at-refusal, at-text}
 use Rattle.job.specs.FirstBlock.{heading, text}
-use Rattle.job.proofs.Listed.{text-obeying}
-use Rattle.job.proofs.Rows.{limit-enough, result-none, result-rule, result-day, result-judged}
-use Rattle.job.proofs.Rows.{Comes, no-line, at-rule, at-day, at-judge, comes}
+use Rattle.job.proofs.Listed.{text-obeying, lists-text, one-text}
+use Rattle.job.proofs.Rows.{limit-enough, result-refused, refused-above, result-judged, Comes, at-row, at-judge, comes}
 
 -- ---- the numbers of a job
 -- those of the readers' rows are none of the judge's own, 7, 8, 9 and 10
+row-apart : {s : List ℕ} {n p : ℕ} → JobRefused s n p → 7 ≤ n → n ≤ 10 → ⊥
+row-apart (no-rule-line h) z l = omega arith
+row-apart (rule-refused d m) z l = rule-rows.row-apart m z l
+row-apart (day-refused d r m) z l = day-rows.row-apart (m .means) z l
+
 apart : {s old : List ℕ} {a : JobAnswer} → JobMeaning s old a → 7 ≤ a .number → a .number ≤ 10 → ⊥
-apart (no-rule-line h) z l = omega arith
-apart (rule-refused d m) z l = rule-rows.row-apart m z l
-apart (day-refused d p m) z l = day-rows.row-apart (m .means) z l
+apart (row-refused r) z l = row-apart r z l
 apart (short-buffer j t h) z l = omega arith
 apart (accepted j t h) z l = omega arith
 
@@ -148,6 +151,18 @@ text-judged : {s : List ℕ} {t : Tree} {w : Word} → Judged s t w → jobText 
 unfolding jobText
 text-judged j = rw (result-judged j) refl
 
+-- the program's text is what it is to write, and nothing else is
+pub text-writes : (s : List ℕ) → Writes s (jobText s)
+text-writes s = go (comes s)
+  where
+    go : Comes s → Writes s (jobText s)
+    go (at-row r) = subst (Writes s) (sym (text-refused s (result-refused r) (refused-above r))) (writes-refusal r)
+    go (at-judge {t = t} {w = w} j) = subst (Writes s) (sym (text-judged j)) (writes-list j (lists-text w t (judged-short j)))
+
+pub writes-is : {s x : List ℕ} → Writes s x → x ≡ jobText s
+writes-is (writes-list {t = t} {w = w} j l) = one-text w t (judged-short j) l ∙ sym (text-judged j)
+writes-is {s} (writes-refusal r) = sym (text-refused s (result-refused r) (refused-above r))
+
 -- no text of the program is longer
 pub text-most : (s : List ℕ) → length (jobText s) ≤ 328985
 text-most s = most (comes s)
@@ -156,9 +171,7 @@ text-most s = most (comes s)
     short {n} {p} e h = let f = ap length (text-refused s e h) in omega (arith, refusal-most n p)
 
     most : Comes s → length (jobText s) ≤ 328985
-    most (no-line h) = short (result-none h) (λ e. omega arith)
-    most (at-rule d m) = short (result-rule d m) (rule-rows.refused-number m)
-    most (at-day d p m) = short (result-day d p m) (λ e. omega (arith, m .refused))
+    most (at-row r) = short (result-refused r) (refused-above r)
     most (at-judge j) = let f = ap length (text-judged j) in omega (arith, judged-most j)
 
 -- what the program writes is what the call left in its buffer, or the line of the refusal
@@ -170,9 +183,7 @@ module _ (s old : List ℕ) (room : 328985 ≤ length old) where
   stopped {n} e h = text-refused s e h ∙ rw (← at-refusal s old e h) (simp (ne-eqb n 0 h))
 
   told : Comes s → jobText s ≡ answered (jobAnswer s old)
-  told (no-line h) = stopped (result-none h) (λ e. omega arith)
-  told (at-rule d m) = stopped (result-rule d m) (rule-rows.refused-number m)
-  told (at-day d p m) = stopped (result-day d p m) (λ e. omega (arith, m .refused))
+  told (at-row r) = stopped (result-refused r) (refused-above r)
   told (at-judge {t = t} {w = w} j) =
       let l : length (text w t) ≤ length old = omega (arith, judged-most j) in
       text-judged j ∙ rw (← at-text s old j l) (sym (take-at (text w t) (drop (length (text w t)) old) (length (text w t)) refl))
@@ -184,9 +195,7 @@ module _ (s old : List ℕ) (room : 328985 ≤ length old) where
 
 -- the text stands in the buffer
 text-inside : {s old : List ℕ} {a : JobAnswer} → JobMeaning s old a → a .n ≤ length (a .out)
-text-inside (no-rule-line h) = omega arith
-text-inside (rule-refused d m) = omega arith
-text-inside (day-refused d p m) = omega arith
+text-inside (row-refused r) = omega arith
 text-inside (short-buffer j l h) = omega arith
 text-inside {old = old} (accepted {text = x} j l h) = omega (arith, length-append x (drop (length x) old))
 

@@ -35,7 +35,7 @@ use Rattle.judge.specs.JudgeAnswer.{JudgeAnswer}
 use Rattle.judge.specs.JudgeComputed.{judgeAnswer}
 use Rattle.judge.proofs.Determined.{to-limit}
 use Rattle.job.specs.JobComputed.{refused, listed, limitOf, afterJudge, afterDay, afterRule, isJob, ruleOf, dayOf, jobResult}
-use Rattle.job.specs.JobMeaning.{Parted, DayRefused, Judged}
+use Rattle.job.specs.JobMeaning.{Parted, DayRefused, Judged, JobRefused, no-rule-line, rule-refused, day-refused}
 use Rattle.job.proofs.Days.{legal-word}
 use Rattle.job.specs.FirstBlock.{heading}
 use Rattle.job.proofs.Listed.{first-block}
@@ -49,7 +49,7 @@ none-parted s h = either (isJob s) refl
     either false e = e
     either true e = absurd (h (ruleOf s) (dayOf s) (parted-job s e))
 
-pub result-none : {s : List ℕ} → ((rule file : List ℕ) → Parted s rule file → ⊥) → jobResult s ≡ refused 16 0
+result-none : {s : List ℕ} → ((rule file : List ℕ) → Parted s rule file → ⊥) → jobResult s ≡ refused 16 0
 unfolding jobResult
 result-none {s} h = simp (none-parted s h)
 
@@ -57,7 +57,7 @@ parted-result : {s rule file : List ℕ} → Parted s rule file → jobResult s 
 unfolding jobResult
 parted-result p = rw (parted-is-job p) (ap₂ (λ (x y : List ℕ). afterRule x y (ruleAnswer x)) (parted-rule p) (parted-day p))
 
-pub result-rule : {s rule file : List ℕ} {n p : ℕ} → Parted s rule file → RuleMeaning rule (reader.refusal n p) → jobResult s ≡ refused n p
+result-rule : {s rule file : List ℕ} {n p : ℕ} → Parted s rule file → RuleMeaning rule (reader.refusal n p) → jobResult s ≡ refused n p
 result-rule {rule = rule} {file = file} {n = n} {p = p} d m =
     parted-result d ∙ ap (afterRule rule file) (sym (rule-answered.answer-is m)) ∙ simp (ne-eqb n 0 (refused-number m))
 
@@ -69,7 +69,7 @@ rule-passed {rule = rule} {file = file} d p = parted-result d ∙ ap (afterRule 
 zeros-long : (n : ℕ) → n ≤ 255 → n ≤ length {A = ℕ} (replicate 255 0)
 zeros-long n h = omega (arith, length-replicate {A = ℕ} 255 0)
 
-pub result-day : {s rule file : List ℕ} {t : Tree} {n p : ℕ} → Parted s rule file → Passed rule t → DayRefused file n p
+result-day : {s rule file : List ℕ} {t : Tree} {n p : ℕ} → Parted s rule file → Passed rule t → DayRefused file n p
     → jobResult s ≡ refused n p
 result-day {rule = rule} {file = file} {t = t} {n = n} {p = p} d r m =
     let z : n ≡ 0 → ⊥ = λ e. omega (arith, m .refused) in
@@ -115,11 +115,19 @@ result-judged {t = t} j =
     rule-passed (j .parted) (j .passed) ∙ day-passed (j .passed) (j .whole)
     ∙ ap (λ (w : Word). listed (heading w t) (block w t)) (sym (j .word))
 
--- ---- one of the rows holds of every job
+-- ---- one of the rows refuses a job, or its day is judged
+pub result-refused : {s : List ℕ} {n p : ℕ} → JobRefused s n p → jobResult s ≡ refused n p
+result-refused (no-rule-line h) = result-none h
+result-refused (rule-refused d m) = result-rule d m
+result-refused (day-refused d r m) = result-day d r m
+
+pub refused-above : {s : List ℕ} {n p : ℕ} → JobRefused s n p → n ≡ 0 → ⊥
+refused-above (no-rule-line h) e = omega arith
+refused-above (rule-refused d m) e = refused-number m e
+refused-above (day-refused d r m) e = omega (arith, m .refused)
+
 pub data Comes (s : List ℕ) : Type 0 where
-  no-line : ((rule file : List ℕ) → Parted s rule file → ⊥) → Comes s
-  at-rule : {rule file : List ℕ} {n p : ℕ} → Parted s rule file → RuleMeaning rule (reader.refusal n p) → Comes s
-  at-day : {rule file : List ℕ} {t : Tree} {n p : ℕ} → Parted s rule file → Passed rule t → DayRefused file n p → Comes s
+  at-row : {n p : ℕ} → JobRefused s n p → Comes s
   at-judge : {t : Tree} {w : Word} → Judged s t w → Comes s
 
 comes-day : {s rule file : List ℕ} {t : Tree} → Parted s rule file → Passed rule t → Comes s
@@ -132,14 +140,14 @@ comes-day {rule = rule} {file = file} d p =
     let g = day-rows.accepting m e in
     at-judge (record { rule = rule; file = file; parted = d; passed = p; events = g .events; whole = g .whole; word = refl }))
     (λ (e : a .number ≡ 0 → ⊥).
-    at-day d p
+    at-row (day-refused d p
     (record {
       refused = omega arith;
       letters = z;
       seconds = z;
       room = (zeros-long 255 (omega arith), zeros-long 255 (omega arith));
       means = rebuffered z z m e (zeros-long 255 (omega arith), zeros-long 255 (omega arith));
-    }))
+    })))
     (same-or-not (a .number) 0)
 
 comes-rule : {s rule file : List ℕ} → Parted s rule file → Comes s
@@ -147,7 +155,7 @@ comes-rule {rule = rule} d =
     let a = ruleAnswer rule in
     let m = rule-answered.answer-means rule in
     ⊎-elim (λ (e : a .number ≡ 0). comes-day d (accepting m e .passed))
-    (λ (e : a .number ≡ 0 → ⊥). at-rule d (subst (RuleMeaning rule) (refusing m e) m))
+    (λ (e : a .number ≡ 0 → ⊥). at-row (rule-refused d (subst (RuleMeaning rule) (refusing m e) m)))
     (same-or-not (a .number) 0)
 
 pub comes : (s : List ℕ) → Comes s
@@ -155,4 +163,4 @@ comes s = either (isJob s) refl
   where
     either : (b : Bool) → isJob s ≡ b → Comes s
     either true e = comes-rule (parted-job s e)
-    either false e = no-line (λ rule file p. true≢false (sym (parted-is-job p) ∙ e))
+    either false e = at-row (no-rule-line (λ rule file p. true≢false (sym (parted-is-job p) ∙ e)))

@@ -17,7 +17,7 @@ use Rattle.work.specs.Span.{Obeys}
 use Rattle.work.specs.Spans.{Spans, InOrder}
 use Rattle.work.specs.SizeOf.{SizeOf}
 use Rattle.work.specs.Walk.{Collection}
-use Rattle.listing.specs.Lines.{headLine, spanLines}
+use Rattle.listing.specs.Lines.{headLine, spanLines, refusalLine}
 use Rattle.job.specs.JobAnswer.{JobAnswer, refusal, acceptance}
 
 -- 01: "A job is one line `R`, tab, rule, newline, and then the day."; the line ends at its first newline
@@ -53,20 +53,26 @@ pub record Lists (w : Word) (t : Tree) (found count : ℕ) (text : List ℕ) : T
   pub count-is : SizeOf (Collection w t) count
   pub text-is : text ≡ headLine (record { n = length w; m = size t; k = specials t; found = found; count = count }) ++ spanLines spans
 
--- one constructor for each row, and for the text: what holds of the job s and of the buffer at entry, and the whole answer.
--- None has 7, 8, 9 or 10.
-pub data JobMeaning (s old : List ℕ) : JobAnswer → Type 0 where
+-- the job s is refused before its day is judged, with this number and place: one constructor for each row
+pub data JobRefused (s : List ℕ) : ℕ → ℕ → Type 0 where
   -- "16: not `R`, tab, then bytes up to a newline"
-  no-rule-line : ((rule file : List ℕ) → Parted s rule file → ⊥) → JobMeaning s old (refusal 16 0 old)
+  no-rule-line : ((rule file : List ℕ) → Parted s rule file → ⊥) → JobRefused s 16 0
   -- 1 to 6: the rule text's row
-  rule-refused : {rule file : List ℕ} {n p : ℕ} → Parted s rule file → RuleMeaning rule (reader.refusal n p)
-      → JobMeaning s old (refusal n p old)
+  rule-refused : {rule file : List ℕ} {n p : ℕ} → Parted s rule file → RuleMeaning rule (reader.refusal n p) → JobRefused s n p
   -- 11 to 14: the day file's row
-  day-refused : {rule file : List ℕ} {t : Tree} {n p : ℕ} → Parted s rule file → Passed rule t → DayRefused file n p
-      → JobMeaning s old (refusal n p old)
+  day-refused : {rule file : List ℕ} {t : Tree} {n p : ℕ} → Parted s rule file → Passed rule t → DayRefused file n p → JobRefused s n p
+
+-- what holds of the job s and of the buffer at entry, and the whole answer. None has 7, 8, 9 or 10.
+pub data JobMeaning (s old : List ℕ) : JobAnswer → Type 0 where
+  row-refused : {n p : ℕ} → JobRefused s n p → JobMeaning s old (refusal n p old)
   -- 15, last: the buffer is shorter than the text
   short-buffer : {t : Tree} {w : Word} {f c : ℕ} {text : List ℕ} → Judged s t w → Lists w t f c text → length old < length text
       → JobMeaning s old (refusal 15 0 old)
-  -- accepted
   accepted : {t : Tree} {w : Word} {f c : ℕ} {text : List ℕ} → Judged s t w → Lists w t f c text → length text ≤ length old
       → JobMeaning s old (acceptance f c text old)
+
+-- what the program writes for the job s: the listing, or "Refused: one line `X`, number, place."
+-- That `jobText` is the one text which is so written is `text-writes` and `writes-is` in proofs/Results.
+pub data Writes (s : List ℕ) : List ℕ → Type 0 where
+  writes-list : {t : Tree} {w : Word} {f c : ℕ} {text : List ℕ} → Judged s t w → Lists w t f c text → Writes s text
+  writes-refusal : {n p : ℕ} → JobRefused s n p → Writes s (refusalLine n p)

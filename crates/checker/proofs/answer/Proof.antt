@@ -1,14 +1,16 @@
 -- `answer` puts `jobText` into its buffer. Assumes nothing.
 use Prim.Native.Nat.{ℕ, _-_, _≤_}
 use native.Mathlib.Omega.{arith}
-use mathlib.Core.Path.{_≡_, sym, ap, _∙_}
-use mathlib.Core.List.{_++_}
+use mathlib.Core.Path.{_≡_, sym, ap, subst, _∙_}
+use mathlib.Core.List.{List, _++_}
 use lib.ListN.{length, take, replicate, length-append, length-replicate}
 use lib.Seq.{take-at}
 use borrow.Author.Needs.{needs}
 use Rattle.listing.specs.declared.Line.{Line}
 use Rattle.listing.specs.Lines.{refusalLine}
-use Rattle.job.proofs.Results.{refusal-most, text-listed, text-stopped, text-within}
+use Rattle.job.specs.JobComputed.{jobText}
+use Rattle.job.specs.JobMeaning.{Writes}
+use Rattle.job.proofs.Results.{refusal-most, text-listed, text-stopped, text-within, text-writes}
 use Rattle.checker.proofs.answer.Statement.{statement}
 use Rattle.checker.proofs.answer.Tie as tie
 
@@ -30,6 +32,11 @@ module _ (n p : ℕ) (l : Line)
   line-text =
       ap (take (l .len)) (e .0) ∙ take-at (refusalLine n p) (replicate (44 - length (refusalLine n p)) 0) (l .len) (sym (e .1))
 
+-- the two clauses of the contract, from the first
+with-meaning : (s : List ℕ) (r : ℕ) (b : List ℕ) → take r b ≡ jobText s → r ≤ length b
+    → ((take r b ≡ jobText s) × (r ≤ length b)) × Writes s (take r b)
+with-meaning s r b e h = ((e, h), subst (Writes s) (sym e) (text-writes s))
+
 pub answer-spec : {M : Type 1} → statement M
 answer-spec =
     tie.close (tie.spec
@@ -40,10 +47,9 @@ answer-spec =
     let s = t .before .before .before .before in
     let a = s .args in
     let b = t .run .last .1 .0 in
-    let e = t .run .ensures .0 in (
-      text-listed (a .job .now) (a .out .now) (s .pre) (t .run .result) b e (c .if1 .taken),
-      text-within (a .job .now) (a .out .now) (s .pre) (t .run .result) b e,
-    ))
+    let e = t .run .ensures .0 in
+    with-meaning (a .job .now) (t .run .result .n) b (text-listed (a .job .now) (a .out .now) (s .pre) (t .run .result) b e (c .if1 .taken))
+    (text-within (a .job .now) (a .out .now) (s .pre) (t .run .result) b e))
     (λ c κs. search needs)
     (λ c κs.
     let t = c .before .before .before .before .before .before in
@@ -64,9 +70,7 @@ answer-spec =
     let k = t .run .kept .1 .0 in
     let m = w .kept .1 .0 in
     let z = line-short (r .number) (r .place) (l .result) (l .ensures) in
-    let n : w .result ≤ length (w .last .1 .0) = omega (arith, s .pre, w .ensures .0) in (
-      w .ensures .1 ∙ line-text (r .number) (r .place) (l .result) (l .ensures)
-          ∙ text-stopped (a .job .now) (a .out .now) (s .pre) r (t .run .last .1 .0) (t .run .ensures .0)
-          (c .before .before .before .before .before .if1 .left),
-      n,
-    )))
+    let n : w .result ≤ length (w .last .1 .0) = omega (arith, s .pre, w .ensures .0) in
+    with-meaning (a .job .now) (w .result) (w .last .1 .0) (w .ensures .1 ∙ line-text (r .number) (r .place) (l .result) (l .ensures)
+    ∙ text-stopped (a .job .now) (a .out .now) (s .pre) r (t .run .last .1 .0) (t .run .ensures .0)
+    (c .before .before .before .before .before .if1 .left)) n))

@@ -22,6 +22,6 @@ main-spec =
     (λ c. search needs)
     (λ c κs. search needs)
     (λ c. search needs)
-    (λ c. let a = c .before .before .answer in sym (length-take-le (a .result) (a .last .1 .0) (a .ensures .1)))
+    (λ c. let a = c .before .before .answer in sym (length-take-le (a .result) (a .last .1 .0) (a .ensures .0 .1)))
     (λ c κs. search needs)
     (λ c. search needs))
