@@ -1,16 +1,16 @@
 /* Wuzlevor, the day checker of an office-door reader line: the C interface of the proved library, libwuzlevor.a.
  *
- * Texts. A rule is a text of letters a to z (events), 0 (no word), 1 (the empty word), | (or), & (and), ! (not), * (any number of times) and
- * parentheses; two rules side by side are one after the other. From loosest to tightest: |, &, side by side, ! in front, * behind. A rule's
- * nodes are its letters, 0s, 1s and operators, "side by side" included.
- * A day file has a line for each event: E, tab, the second of the day in decimal, tab, the event's letter, newline. A job is a line R, tab,
- * rule, newline, and then a day file.
+ * Texts. A rule is a text of letters a to z (events), 0 (no word), 1 (the empty word), | (or), & (and), ! (not), * (any number of times)
+ * and parentheses; two rules side by side are one after the other. From loosest to tightest: |, &, side by side, ! in front, * behind; what
+ * has two sides groups from the left. A rule's nodes are its letters, 0s, 1s and operators, "side by side" included.
+ * A day file has a line for each event: E, tab, the second of the day in decimal (1 to 5 digits, no leading zero but 0 itself), tab, the
+ * event's letter, newline. A job is a line R, tab, rule, newline, and then a day file.
  * Span (i, j) of a word or a day of n events, 0 <= i <= j <= n, is the events after the first i up to and including the j-th.
  *
  * Buffers. Each is a pointer and the number of its elements. No pointer is NULL, even where the number is 0; each is aligned for its
  * elements and points to that many; a buffer that a call writes overlaps no other buffer of the call. What the calls do otherwise is
- * undefined. Nothing is allocated or kept between calls, and calls with different buffers may run in different threads. The calls have run
- * in threads of 512 KiB of stack; no bound of it is proved.
+ * undefined. Nothing is allocated or kept between calls; calls may run in different threads if no buffer that one of them writes is used by
+ * another. The calls have run in threads of 512 KiB of stack; no bound of it is proved.
  *
  * Answers. Every call returns its number, 0 where it accepts, and writes the first elements of `answer`: that number, place, found, count,
  * and then values of its own. What follows them in `answer` is not touched. If `answer`, or `nodes` of wuz_read_rule, is shorter than the
@@ -79,8 +79,8 @@ uint64_t wuz_read_rule(const uint8_t *text, size_t text_len, uint64_t *answer, s
 uint64_t wuz_read_day(const uint8_t *file, size_t file_len, uint8_t *letters, size_t letters_len, uint32_t *seconds, size_t seconds_len,
                       uint64_t *answer, size_t answer_len);
 
-/* Judges every span of a word of n events by a rule. answer (4): number, place, found, count: found spans obey the rule, and the work
- * count is count, at most m * (n + 1) * (n + 2); 10 exactly where it is above `limit`.
+/* Judges every span of a word of n events, as wuz_read_day leaves them in `letters`, by a rule. answer (4): number, place, found, count:
+ * found spans obey the rule, and the work count is count, at most m * (n + 1) * (n + 2); 10 exactly where it is above `limit`.
  * table: (k + 1) * (n + 1) * 4 numbers are needed; what follows them is not touched. On acceptance they are written: a block of n + 1 rows
  * of four numbers for the whole rule, and then one for the part that each & or ! heads, in rising byte offset. In row i of a block, span
  * (i, j) is bit j % 64 (the lowest is bit 0) of number j / 64: 1 exactly if the span obeys. All other bits are 0.

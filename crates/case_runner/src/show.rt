@@ -2,7 +2,6 @@
 use day::Outcome as DayOutcome;
 use regex::Kind;
 use regex::Node;
-use rule::Outcome as RuleOutcome;
 use verdict::Verdict;
 ghost use mathlib.Core.Path.{_≡_};
 ghost use lib.ListN.{length};
@@ -82,10 +81,8 @@ pub fn answer_rule(text: &[u8]) {
     let outcome = rule.outcome;
     let nodes = rule.nodes;
     let verdict = rule::outcome_verdict(outcome);
-    let RuleOutcome::Accepted(m, k) = outcome else {
-        print_rule(verdict, 0, 0, nodes);
-        return;
-    };
+    let m = rule::node_count(outcome);
+    let k = rule::special_count(outcome);
     print_rule(verdict, m, k, nodes);
 }
 
@@ -129,11 +126,7 @@ fn print_day(verdict: Verdict, n: usize) {
 
 fn print_outcome(outcome: DayOutcome) {
     let verdict = day::outcome_verdict(outcome);
-    let DayOutcome::Accepted(n) = outcome else {
-        print_day(verdict, 0);
-        return;
-    };
-    print_day(verdict, n);
+    print_day(verdict, day::event_count(outcome));
 }
 
 // Reads a day file into the two buffers and prints the answer, and the buffers whole.

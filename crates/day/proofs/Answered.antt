@@ -10,10 +10,11 @@ use lib.ListN.{length, drop}
 use borrow.Author.Tests.{ltb-true, ltb-false, lt-ltb, le-ltb}
 use Rattle.event.proofs.Tests.{either, neither, choose}
 use Rattle.day.specs.DayFile.{lastSecond, DayEvent, LineAt, Lines, done, more, secondAfter}
-use Rattle.day.specs.DayLines.{LinesResult, malformed, wrongSecond, manyLines, events, front, judged, lineOf, dayLines}
+use Rattle.day.specs.DayLines.{LinesResult, stopped, events, front, judged, lineOf, dayLines}
 use Rattle.day.specs.DayAnswer.{DayAnswer, refusal}
 use Rattle.day.specs.DayComputed.{answered, dayAnswer}
 use Rattle.day.specs.DayMeaning.{DayMeaning, long-file, many-lines, malformed-line, wrong-second, short-buffer, accepted, Whole}
+use Rattle.day.specs.declared.Refusal.the-variants as why
 use Rattle.day.specs.declared.line.LineRead.{LineRead}
 use Rattle.day.specs.declared.line.LineRead.the-variants.{Formed, Malformed}
 use Rattle.day.proofs.LineForm.{line-sound, line-found}
@@ -54,9 +55,11 @@ record Overflows (left y : ℕ) (s : List ℕ) : Type 0 where
   all : length l ≡ left
 
 abbrev Says : ℕ → ℕ → List ℕ → LinesResult → Type 0
-Says left y s (malformed p) = Stops NoLine left y s p
-Says left y s (wrongSecond p) = Stops BadSecond left y s p
-Says left y s manyLines = Overflows left y s
+Says left y s (stopped (why.Malformed p)) = Stops NoLine left y s p
+Says left y s (stopped (why.WrongSecond p)) = Stops BadSecond left y s p
+Says left y s (stopped why.ManyLines) = Overflows left y s
+Says left y s (stopped why.LongFile) = ⊥
+Says left y s (stopped why.ShortBuffer) = ⊥
 Says left y s (events l) = Lines y s l [] × (length l ≤ left)
 
 -- one good line more in front
@@ -74,10 +77,12 @@ module _ (left y : ℕ) (s mid : List ℕ) (e : DayEvent) (h : LineAt s e mid) (
       }
 
   says-front : (d : LinesResult) → Says left (e .second) mid d → Says (suc left) y s (front e d)
-  says-front (malformed p) b = stops-later NoLine p b
-  says-front (wrongSecond p) b = stops-later BadSecond p b
-  says-front manyLines b =
+  says-front (stopped (why.Malformed p)) b = stops-later NoLine p b
+  says-front (stopped (why.WrongSecond p)) b = stops-later BadSecond p b
+  says-front (stopped why.ManyLines) b =
       record { l = e ∷ b .l; rest = b .rest; good = more h low high (b .good); begun = b .begun; all = omega (arith, b .all) }
+  says-front (stopped why.LongFile) b = b
+  says-front (stopped why.ShortBuffer) b = b
   says-front (events l) b = (more h low high (b .0), omega (arith, b .1))
 
 -- the first line is bad
@@ -108,16 +113,18 @@ pub good-lines : (s : List ℕ) (l : List DayEvent) → dayLines 255 0 s ≡ eve
 good-lines s l e = subst (Says 255 0 s) e (says 255 0 s (omega arith)) .0
 
 means : (s ls ss : List ℕ) → length s ≤ 2550 → (d : LinesResult) → Says 255 0 s d → DayMeaning s ls ss (answered d ls ss)
-means s ls ss h (malformed p) b =
+means s ls ss h (stopped (why.Malformed p)) b =
     let e : suc (length (b .l)) ≡ p = omega (arith, b .place) in
     subst (λ (q : ℕ). DayMeaning s ls ss (refusal 12 q ls ss)) e
     (malformed-line (record { fits = h; good = b .good; begun = b .begun }) (b .few) (b .why))
-means s ls ss h (wrongSecond p) b =
+means s ls ss h (stopped (why.WrongSecond p)) b =
     let e : suc (length (b .l)) ≡ p = omega (arith, b .place) in
     let w = b .why in
     subst (λ (q : ℕ). DayMeaning s ls ss (refusal 13 q ls ss)) e
     (wrong-second (record { fits = h; good = b .good; begun = b .begun }) (b .few) (w .2) (w .3))
-means s ls ss h manyLines b = many-lines (record { fits = h; good = b .good; begun = b .begun }) (b .all)
+means s ls ss h (stopped why.ManyLines) b = many-lines (record { fits = h; good = b .good; begun = b .begun }) (b .all)
+means s ls ss h (stopped why.LongFile) b = absurd b
+means s ls ss h (stopped why.ShortBuffer) b = absurd b
 means s ls ss h (events l) b =
     let w : Whole s l = record { fits = h; good = b .0; few = b .1 } in
     choose (DayMeaning s ls ss) (ltb (length ls) (length l) || ltb (length ss) (length l))
@@ -193,19 +200,19 @@ pub answer-is : {s ls ss : List ℕ} {a : DayAnswer} → DayMeaning s ls ss a �
 unfolding dayAnswer
 answer-is {s} {ls} {ss} (long-file h) = simp (lt-ltb 2550 (length s) h)
 answer-is {s} {ls} {ss} (many-lines {l = l} {rest = rest} u h) =
-    by-lines s ls ss manyLines (u .fits) (run-all (u .good) (omega arith)
-    ∙ ap (prefixed l) (turn-many (length l) (secondAfter 0 l) rest h (u .begun)) ∙ prefixed-refusal manyLines (λ e. refl) l)
+    by-lines s ls ss (stopped why.ManyLines) (u .fits) (run-all (u .good) (omega arith)
+    ∙ ap (prefixed l) (turn-many (length l) (secondAfter 0 l) rest h (u .begun)) ∙ prefixed-refusal (stopped why.ManyLines) (λ e. refl) l)
 answer-is {s} {ls} {ss} (malformed-line {l = l} {rest = rest} u h n) =
     let p : length l + 1 ≡ suc (length l) = omega arith in
-    by-lines s ls ss (malformed (suc (length l))) (u .fits) (run-all (u .good) (omega arith)
-    ∙ ap (prefixed l) (turn-malformed (length l) (secondAfter 0 l) rest h (u .begun) (no-line rest n) ∙ ap malformed p)
-    ∙ prefixed-refusal (malformed (suc (length l))) (λ e. refl) l)
+    by-lines s ls ss (stopped (why.Malformed (suc (length l)))) (u .fits) (run-all (u .good) (omega arith)
+    ∙ ap (prefixed l) (turn-malformed (length l) (secondAfter 0 l) rest h (u .begun) (no-line rest n) ∙ ap (λ (x : ℕ). stopped (why.Malformed x)) p)
+    ∙ prefixed-refusal (stopped (why.Malformed (suc (length l)))) (λ e. refl) l)
 answer-is {s} {ls} {ss} (wrong-second {l = l} {rest = rest} {after = after} {e = e} u h a w) =
     let p : length l + 1 ≡ suc (length l) = omega arith in
     let f = line-found rest e after a in
-    by-lines s ls ss (wrongSecond (suc (length l))) (u .fits) (run-all (u .good) (omega arith)
-    ∙ ap (prefixed l) (turn-wrong (length l) (secondAfter 0 l) rest h (u .begun) _ _ _ (f .1) w ∙ ap wrongSecond p)
-    ∙ prefixed-refusal (wrongSecond (suc (length l))) (λ e. refl) l)
+    by-lines s ls ss (stopped (why.WrongSecond (suc (length l)))) (u .fits) (run-all (u .good) (omega arith)
+    ∙ ap (prefixed l) (turn-wrong (length l) (secondAfter 0 l) rest h (u .begun) _ _ _ (f .1) w ∙ ap (λ (x : ℕ). stopped (why.WrongSecond x)) p)
+    ∙ prefixed-refusal (stopped (why.WrongSecond (suc (length l)))) (λ e. refl) l)
 answer-is {s} {ls} {ss} (short-buffer {l = l} w h) =
     sym (simp (shorter (length ls) (length ss) (length l) h)) ∙ by-lines s ls ss (events l) (w .fits) (whole-lines (w .good) (w .few))
 answer-is {s} {ls} {ss} (accepted {l = l} w h g) =

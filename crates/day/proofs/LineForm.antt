@@ -15,7 +15,7 @@ use Rattle.event.proofs.LeadingLaws.{leading-found}
 use Rattle.event.proofs.Tails.{rest-at}
 use Rattle.event.proofs.Tests.{and-split, T-of, of-T}
 use Rattle.decimal.specs.Numeral.{isDigit, AllDigits, valueOf}
-use Rattle.day.specs.DayFile.{eventTag, DayEvent, Decimal, lineText, LineAt}
+use Rattle.day.specs.DayFile.{eventTag, DayEvent, SecondNumeral, lineText, LineAt}
 use Rattle.day.specs.DayLines.{digitCount, isSecond, isLine, lineWith, lineOf}
 use Rattle.day.specs.declared.line.LineRead.the-variants.{Formed, Malformed}
 use Rattle.day.proofs.LineLaws.{inside, counted-digits, second-is}
@@ -76,7 +76,7 @@ line-within s x c size e =
     (omega (arith, p .ends), omega (arith, p .ends))
 
 -- digits that can be a second write it in decimal
-decimal-of : (s : List ℕ) (x c size : ℕ) → Parts s (digitCount (drop 2 s)) x c size → Decimal (take (digitCount (drop 2 s)) (drop 2 s)) x
+decimal-of : (s : List ℕ) (x c size : ℕ) → Parts s (digitCount (drop 2 s)) x c size → SecondNumeral (take (digitCount (drop 2 s)) (drop 2 s)) x
 decimal-of s x c size p =
     let d = digitCount (drop 2 s) in
     let n : length (take d (drop 2 s)) ≡ d = length-take-le d (drop 2 s) (leading-found isDigit (drop 2 s) .within) in
@@ -139,7 +139,7 @@ behind ds t a b k n e =
     let f : k ≡ suc (suc (length ds + n)) = omega arith in
     ap (λ (j : ℕ). getD (a ∷ b ∷ (ds ++ t)) j 0) f ∙ getD-append-add ds t n 0
 
-can-be-second : (ds t : List ℕ) (x : ℕ) → Decimal ds x → isSecond (length ds) (getD (ds ++ t) 0 0) ≡ true
+can-be-second : (ds t : List ℕ) (x : ℕ) → SecondNumeral ds x → isSecond (length ds) (getD (ds ++ t) 0 0) ≡ true
 can-be-second [] t x h = absurd (omega (arith, h .numeral .some))
 can-be-second (b ∷ ds) t x h = go (eqb b 48) refl
   where
@@ -147,7 +147,7 @@ can-be-second (b ∷ ds) t x h = go (eqb b 48) refl
     go true e = simp (eq-eqb (suc (length ds)) 1 (h .numeral .leading (eqb-true b 48 e)))
     go false e = simp (e, le-leb 1 (suc (length ds)) (h .numeral .some), le-leb (suc (length ds)) 5 (h .few), or-true)
 
-found-in : (ds rest : List ℕ) (x c : ℕ) → Decimal ds x → T (isEvent c)
+found-in : (ds rest : List ℕ) (x c : ℕ) → SecondNumeral ds x → T (isEvent c)
     → lineOf (eventTag ∷ 9 ∷ (ds ++ 9 ∷ c ∷ 10 ∷ rest)) ≡ Formed x c (length ds + 2 + 3)
 unfolding lineOf
 found-in ds rest x c h v =

@@ -8,13 +8,13 @@ use lib.ListN.{length, drop, length-map}
 use lib.Seq.{sets, sets-eq}
 use borrow.Author.Tests.{lt-ltb, le-ltb}
 use Rattle.day.specs.DayFile.{DayEvent, letterOf, secondOf, Lines, done, more}
-use Rattle.day.specs.DayLines.{LinesResult, malformed, wrongSecond, manyLines, events, dayLines, checked, withLine, eventsOf}
+use Rattle.day.specs.DayLines.{LinesResult, stopped, events, dayLines, checked, withLine, eventsOf}
 use Rattle.day.specs.DayAnswer.{DayAnswer, values, dayValues}
 use Rattle.day.specs.DayComputed.{answered, dayAnswer}
 use Rattle.day.specs.DayMeaning.{DayMeaning}
 use Rattle.day.specs.declared.Outcome.the-variants.{Accepted, Refused}
 use Rattle.day.specs.declared.Refusal.{Refusal}
-use Rattle.day.specs.declared.Refusal.the-variants.{LongFile, Malformed, WrongSecond, ManyLines, ShortBuffer}
+use Rattle.day.specs.declared.Refusal.the-variants.{LongFile, ShortBuffer}
 use Rattle.day.specs.declared.passes.Checked.{Checked}
 use Rattle.day.specs.declared.passes.Checked.the-variants.{Good, Bad}
 use Rattle.day.proofs.LineForm.{line-found}
@@ -35,9 +35,7 @@ apart : (o : Refusal) (n : ℕ) → Bad o ≡ Good n → ⊥
 apart o n e = let z : _≡_ {A = ℕ} 0 1 = cc in omega arith
 
 refused : (o : Refusal) (ls ss : List ℕ) (d : LinesResult) → Bad o ≡ checked 0 d → dayValues (Refused o) ls ss ≡ answered d ls ss
-refused o ls ss (malformed p) e = let q : o ≡ Malformed p = cc in ap (λ (x : Refusal). dayValues (Refused x) ls ss) q
-refused o ls ss (wrongSecond p) e = let q : o ≡ WrongSecond p = cc in ap (λ (x : Refusal). dayValues (Refused x) ls ss) q
-refused o ls ss manyLines e = let q : o ≡ ManyLines = cc in ap (λ (x : Refusal). dayValues (Refused x) ls ss) q
+refused o ls ss (stopped r) e = let q : o ≡ r = cc in ap (λ (x : Refusal). dayValues (Refused x) ls ss) q
 refused o ls ss (events l) e = absurd (apart o _ e)
 
 pub bad-line : (s ls ss : List ℕ) (r : Checked) (o : Refusal) → length s ≤ 2550 → r ≡ checked 0 (dayLines 255 0 s) → r ≡ Bad o
@@ -52,9 +50,7 @@ record Day-of (s : List ℕ) (n : ℕ) : Type 0 where
   many : n ≡ length l
 
 day-of : (s : List ℕ) (n : ℕ) (d : LinesResult) → dayLines 255 0 s ≡ d → Good n ≡ checked 0 d → Day-of s n
-day-of s n (malformed p) q e = absurd (apart _ _ (sym e))
-day-of s n (wrongSecond p) q e = absurd (apart _ _ (sym e))
-day-of s n manyLines q e = absurd (apart _ _ (sym e))
+day-of s n (stopped r) q e = absurd (apart _ _ (sym e))
 day-of s n (events l) q e = let z : n ≡ 0 + length l = cc in record { l = l; lines = q; many = omega arith }
 
 -- the second pass meets the same lines

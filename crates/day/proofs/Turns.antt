@@ -11,7 +11,7 @@ use lib.Seq.{drop-drop, sets}
 use borrow.Author.Tests.{lt-ltb, le-ltb}
 use Rattle.event.proofs.Tails.{tail, tail-is}
 use Rattle.day.specs.DayFile.{lastSecond, DayEvent, letterOf, secondOf}
-use Rattle.day.specs.DayLines.{LinesResult, malformed, wrongSecond, manyLines, events, front, judged, lineOf, dayLines}
+use Rattle.day.specs.DayLines.{LinesResult, stopped, events, front, judged, lineOf, dayLines}
 use Rattle.day.specs.DayLines.{checked, withLine, eventsOf}
 use Rattle.day.specs.declared.line.LineRead.{LineRead}
 use Rattle.day.specs.declared.line.LineRead.the-variants.{Formed}
@@ -38,7 +38,7 @@ turn n y s h g =
     ap (λ (k : ℕ). dayLines k y s) e ∙ judged-line (255 - (n + 1)) y s g
     ∙ ap (λ (q : ℕ). judged (dayLines (255 - (n + 1))) q y s (lineOf s)) p
 
-pub turn-many : (n y : ℕ) (s : List ℕ) → n ≡ 255 → 1 ≤ length s → dayLines (255 - n) y s ≡ manyLines
+pub turn-many : (n y : ℕ) (s : List ℕ) → n ≡ 255 → 1 ≤ length s → dayLines (255 - n) y s ≡ stopped ManyLines
 unfolding dayLines
 turn-many n y [] h g = absurd (omega arith)
 turn-many n y (b ∷ s) h g = let e : 255 - n ≡ 0 = omega arith in ap (λ (k : ℕ). dayLines k y (b ∷ s)) e
@@ -49,14 +49,14 @@ turn-end zero y = refl
 turn-end (suc k) y = refl
 
 module _ (n y : ℕ) (s : List ℕ) (few : n < 255) (begun : 1 ≤ length s) where
-  pub turn-malformed : lineOf s ≡ line.Malformed → dayLines (255 - n) y s ≡ malformed (n + 1)
+  pub turn-malformed : lineOf s ≡ line.Malformed → dayLines (255 - n) y s ≡ stopped (Malformed (n + 1))
   turn-malformed e = turn n y s few begun ∙ ap (judged (dayLines (255 - (n + 1))) (n + 1) y s) e
 
   module _ (x c size : ℕ) (e : lineOf s ≡ Formed x c size) where
     turned : dayLines (255 - n) y s ≡ judged (dayLines (255 - (n + 1))) (n + 1) y s (Formed x c size)
     turned = turn n y s few begun ∙ ap (judged (dayLines (255 - (n + 1))) (n + 1) y s) e
 
-    pub turn-wrong : (lastSecond < x) ⊎ (x < y) → dayLines (255 - n) y s ≡ wrongSecond (n + 1)
+    pub turn-wrong : (lastSecond < x) ⊎ (x < y) → dayLines (255 - n) y s ≡ stopped (WrongSecond (n + 1))
     turn-wrong (inl h) = turned ∙ simp (lt-ltb lastSecond x h)
     turn-wrong (inr h) = turned ∙ simp (lt-ltb x y h, or-true)
 
@@ -66,9 +66,7 @@ module _ (n y : ℕ) (s : List ℕ) (few : n < 255) (begun : 1 ≤ length s) whe
 
 -- a good line counts as one more
 pub one-more : (n : ℕ) (e : DayEvent) (d : LinesResult) → checked n (front e d) ≡ checked (n + 1) d
-one-more n e (malformed p) = refl
-one-more n e (wrongSecond p) = refl
-one-more n e manyLines = refl
+one-more n e (stopped r) = refl
 one-more n e (events l) = let h : n + suc (length l) ≡ n + 1 + length l = omega arith in ap Good h
 
 -- n good lines came before `at`, the last with the second y: what the lines from there on come to is what all lines come to

@@ -5,16 +5,15 @@ use mathlib.Core.Bool.{cond, _||_}
 use mathlib.Core.List.{List}
 use lib.Dec.{ltb}
 use lib.ListN.{length}
-use Rattle.day.specs.DayLines.{LinesResult, malformed, wrongSecond, manyLines, events, dayLines}
-use Rattle.day.specs.DayAnswer.{DayAnswer, refusal, acceptance}
+use Rattle.day.specs.DayLines.{LinesResult, stopped, events, dayLines}
+use Rattle.day.specs.DayAnswer.{DayAnswer, refusalVerdict, told, acceptance}
+use Rattle.day.specs.declared.Refusal.the-variants as why
 
 -- 01, number 15: "a buffer shorter than n, after all lines"; the others by their lines
 abbrev pub answered : LinesResult → List ℕ → List ℕ → DayAnswer
-answered (malformed p) ls ss = refusal 12 p ls ss
-answered (wrongSecond p) ls ss = refusal 13 p ls ss
-answered manyLines ls ss = refusal 14 256 ls ss
-answered (events l) ls ss = cond (ltb (length ls) (length l) || ltb (length ss) (length l)) (refusal 15 0 ls ss) (acceptance l ls ss)
+answered (stopped r) ls ss = told (refusalVerdict r) 0 ls ss
+answered (events l) ls ss = cond (ltb (length ls) (length l) || ltb (length ss) (length l)) (told (refusalVerdict why.ShortBuffer) 0 ls ss) (acceptance l ls ss)
 
 -- 01, number 11: "over 2,550 bytes". Of a file and the two buffers at entry.
 unfoldable pub dayAnswer : List ℕ → List ℕ → List ℕ → DayAnswer
-dayAnswer s ls ss = cond (ltb 2550 (length s)) (refusal 11 0 ls ss) (answered (dayLines 255 0 s) ls ss)
+dayAnswer s ls ss = cond (ltb 2550 (length s)) (told (refusalVerdict why.LongFile) 0 ls ss) (answered (dayLines 255 0 s) ls ss)

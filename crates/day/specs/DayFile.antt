@@ -27,7 +27,7 @@ abbrev pub letterOf : DayEvent → ℕ
 letterOf e = e .letter
 
 -- 01: "The second has 1 to 5 digits, no leading zero except `0` itself"
-pub record Decimal (ds : List ℕ) (x : ℕ) : Type 0 where
+pub record SecondNumeral (ds : List ℕ) (x : ℕ) : Type 0 where
   pub numeral : Numeral ds x
   pub few : length ds ≤ 5
 
@@ -39,7 +39,7 @@ lineText ds c = eventTag ∷ 9 ∷ ds ++ 9 ∷ c ∷ 10 ∷ []
 -- the text s begins with a line of the form, that of the event e, and rest follows
 pub record LineAt (s : List ℕ) (e : DayEvent) (rest : List ℕ) : Type 0 where
   pub digits : List ℕ
-  pub decimal : Decimal digits (e .second)
+  pub decimal : SecondNumeral digits (e .second)
   pub event : T (isEvent (e .letter))
   pub text : s ≡ lineText digits (e .letter) ++ rest
 

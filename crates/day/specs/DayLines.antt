@@ -9,6 +9,7 @@ use Rattle.event.specs.Event.{isEvent}
 use Rattle.event.specs.Leading.{leading}
 use Rattle.decimal.specs.Numeral.{isDigit, valueOf}
 use Rattle.day.specs.DayFile.{lastSecond, eventTag, DayEvent}
+use Rattle.day.specs.declared.Refusal.{Refusal}
 use Rattle.day.specs.declared.Refusal.the-variants as why
 use Rattle.day.specs.declared.line.LineRead.{LineRead}
 use Rattle.day.specs.declared.line.LineRead.the-variants.{Formed, Malformed}
@@ -38,35 +39,29 @@ lineOf s = lineWith (digitCount (drop 2 s)) s
 
 -- what the lines of a file come to: refused at a line, or the events in line order
 pub data LinesResult : Type 0 where
-  malformed : ℕ → LinesResult
-  wrongSecond : ℕ → LinesResult
-  manyLines : LinesResult
+  stopped : Refusal → LinesResult
   events : List DayEvent → LinesResult
 
 abbrev pub front : DayEvent → LinesResult → LinesResult
-front e (malformed p) = malformed p
-front e (wrongSecond p) = wrongSecond p
-front e manyLines = manyLines
+front e (stopped r) = stopped r
 front e (events l) = events (e ∷ l)
 
 -- line p at the front of s, after a line of the second y; `next` judges what follows
 abbrev pub judged : (ℕ → List ℕ → LinesResult) → ℕ → ℕ → List ℕ → LineRead → LinesResult
-judged next p y s Malformed = malformed p
+judged next p y s Malformed = stopped (why.Malformed p)
 judged next p y s (Formed x c size) =
-    cond (ltb lastSecond x || ltb x y) (wrongSecond p) (front (record { second = x; letter = c }) (next x (drop size s)))
+    cond (ltb lastSecond x || ltb x y) (stopped (why.WrongSecond p)) (front (record { second = x; letter = c }) (next x (drop size s)))
 
 -- the lines of s, after a line of the second y; at most so many may still come, of 255 in all
 unfoldable pub dayLines : ℕ → ℕ → List ℕ → LinesResult
 dayLines zero y [] = events []
-dayLines zero y (b ∷ s) = manyLines
+dayLines zero y (b ∷ s) = stopped why.ManyLines
 dayLines (suc left) y [] = events []
 dayLines (suc left) y (b ∷ s) = judged (dayLines left) (255 - left) y (b ∷ s) (lineOf (b ∷ s))
 
 -- what the first pass finds where n lines came before
 abbrev pub checked : ℕ → LinesResult → Checked
-checked n (malformed p) = Bad (why.Malformed p)
-checked n (wrongSecond p) = Bad (why.WrongSecond p)
-checked n manyLines = Bad why.ManyLines
+checked n (stopped r) = Bad r
 checked n (events l) = Good (n + length l)
 
 -- the events of the first n lines, as far as they are of the form

@@ -7,7 +7,7 @@ use passes::check_lines;
 use passes::fill;
 use verdict::Verdict;
 ghost use mathlib.Core.Path.{_≡_};
-ghost use Rattle.day.specs.DayAnswer.{dayValues, refusalVerdict, outcomeVerdict};
+ghost use Rattle.day.specs.DayAnswer.{dayValues, refusalVerdict, outcomeVerdict, eventCount};
 ghost use Rattle.day.specs.DayComputed.{dayAnswer};
 ghost use Rattle.day.specs.DayMeaning.{DayMeaning};
 
@@ -73,5 +73,15 @@ pub fn outcome_verdict(outcome: Outcome) -> Verdict
     match outcome {
         Outcome::Accepted(n) => verdict::acceptance(0, 0),
         Outcome::Refused(refusal) => refusal_verdict(refusal),
+    }
+}
+
+// n, the number of events; 0 on a refusal.
+pub fn event_count(outcome: Outcome) -> usize
+    ensures { λ r. ⌜ r ≡ eventCount outcome ⌝ }
+{
+    match outcome {
+        Outcome::Accepted(n) => n,
+        Outcome::Refused(refusal) => 0,
     }
 }

@@ -15,13 +15,13 @@ use Rattle.work.specs.TableComputed.{found}
 use Rattle.job.proofs.Rows.{Comes, at-row, at-judge, comes, result-refused, refused-above, result-judged}
 use Rattle.job.specs.JobAnswer.{JobAnswer, refusal, acceptance}
 use Rattle.job.specs.JobComputed.{refused, jobResult, jobAnswer}
-use Rattle.job.specs.JobMeaning.{Judged, JobMeaning, row-refused, short-buffer, accepted}
+use Rattle.job.specs.JobMeaning.{BothPassed, JobMeaning, row-refused, short-buffer, accepted}
 use Rattle.job.specs.FirstBlock.{text}
 use Rattle.job.proofs.Listed.{lists-text}
 use Rattle.job.proofs.Steps.{refused-written}
 
 -- the events of a day that passes are few
-pub judged-short : {s : List ℕ} {t : Tree} {w : Word} → Judged s t w → length w ≤ 255
+pub judged-short : {s : List ℕ} {t : Tree} {w : Word} → BothPassed s t w → length w ≤ 255
 judged-short {w = w} j = let e = ap length (j .word) in omega (arith, j .whole .few, length-map (j .events) letterOf)
 
 -- ---- the computed answer, once the row is known
@@ -30,7 +30,7 @@ module _ (s old : List ℕ) where
   unfolding jobAnswer
   at-refusal {n} {p} e h = refused-written (jobResult s) n p old e h
 
-  module _ {t : Tree} {w : Word} (j : Judged s t w) where
+  module _ {t : Tree} {w : Word} (j : BothPassed s t w) where
     pub at-short : length old < length (text w t) → refusal 15 0 old ≡ jobAnswer s old
     unfolding jobAnswer
     at-short h = rw (result-judged j) (simp (lt-ltb (length old) (length (text w t)) h))

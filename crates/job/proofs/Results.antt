@@ -27,7 +27,7 @@ use Rattle.job.specs.declared.Answer.{Answer}
 use Rattle.job.specs.JobAnswer.{JobAnswer, jobValues}
 use Rattle.job.specs.JobComputed.{refused, limitOf, jobAnswer, jobResult, jobText}
 use Rattle.rule.specs.RuleMeaning.{Passed}
-use Rattle.job.specs.JobMeaning.{Judged, JobRefused, no-rule-line, rule-refused, day-refused, JobMeaning, row-refused, short-buffer}
+use Rattle.job.specs.JobMeaning.{BothPassed, JobRefused, no-rule-line, rule-refused, day-refused, JobMeaning, row-refused, short-buffer}
 use Rattle.job.specs.JobMeaning.{accepted, Writes, writes-list, writes-refusal}
 use Rattle.job.proofs.Answered.{answer-means, judged-short, at-refusal, at-text}
 use Rattle.job.specs.FirstBlock.{heading, text}
@@ -51,7 +51,7 @@ pub never-judge : (s old : List ℕ) → 7 ≤ jobAnswer s old .number → jobAn
 never-judge s old h l = apart (answer-means s old) h l
 
 -- 10 never comes, since the limit is never below the work
-pub never-spent : {s : List ℕ} {t : Tree} {w : Word} → Judged s t w → fullCount w t ≤ limitOf (size t) (length w)
+pub never-spent : {s : List ℕ} {t : Tree} {w : Word} → BothPassed s t w → fullCount w t ≤ limitOf (size t) (length w)
 never-spent {t = t} {w = w} j = limit-enough w t
 
 -- ---- the longest text
@@ -125,7 +125,7 @@ head-most w t p h =
     let lc = field-length c [] in
     omega arith
 
-judged-most : {s : List ℕ} {t : Tree} {w : Word} → Judged s t w → length (text w t) ≤ 328985
+judged-most : {s : List ℕ} {t : Tree} {w : Word} → BothPassed s t w → length (text w t) ≤ 328985
 judged-most {t = t} {w = w} j =
     let h = judged-short j in
     let e = ap length (text-obeying w t h) in
@@ -147,7 +147,7 @@ text-refused : (s : List ℕ) {n p : ℕ} → jobResult s ≡ refused n p → (n
 unfolding jobText
 text-refused s {n} e h = rw e (simp (ne-eqb n 0 h))
 
-text-judged : {s : List ℕ} {t : Tree} {w : Word} → Judged s t w → jobText s ≡ text w t
+text-judged : {s : List ℕ} {t : Tree} {w : Word} → BothPassed s t w → jobText s ≡ text w t
 unfolding jobText
 text-judged j = rw (result-judged j) refl
 

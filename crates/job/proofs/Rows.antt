@@ -35,7 +35,7 @@ use Rattle.judge.specs.JudgeAnswer.{JudgeAnswer}
 use Rattle.judge.specs.JudgeComputed.{judgeAnswer}
 use Rattle.judge.proofs.Determined.{to-limit}
 use Rattle.job.specs.JobComputed.{refused, listed, limitOf, afterJudge, afterDay, afterRule, isJob, ruleOf, dayOf, jobResult}
-use Rattle.job.specs.JobMeaning.{Parted, DayRefused, Judged, JobRefused, no-rule-line, rule-refused, day-refused}
+use Rattle.job.specs.JobMeaning.{Parted, DayRefused, BothPassed, JobRefused, no-rule-line, rule-refused, day-refused}
 use Rattle.job.proofs.Days.{legal-word}
 use Rattle.job.specs.FirstBlock.{heading}
 use Rattle.job.proofs.Listed.{first-block}
@@ -110,7 +110,7 @@ day-passed {rule} {file} {t} {l} p h =
     ∙ ap (λ (j : JudgeAnswer). afterJudge j (length w) (size t) (specials t)) (judge-accepts p (legal-word h))
     ∙ after-acceptance w t (replicate 8192 0)
 
-pub result-judged : {s : List ℕ} {t : Tree} {w : Word} → Judged s t w → jobResult s ≡ listed (heading w t) (block w t)
+pub result-judged : {s : List ℕ} {t : Tree} {w : Word} → BothPassed s t w → jobResult s ≡ listed (heading w t) (block w t)
 result-judged {t = t} j =
     rule-passed (j .parted) (j .passed) ∙ day-passed (j .passed) (j .whole)
     ∙ ap (λ (w : Word). listed (heading w t) (block w t)) (sym (j .word))
@@ -128,7 +128,7 @@ refused-above (day-refused d r m) e = omega (arith, m .refused)
 
 pub data Comes (s : List ℕ) : Type 0 where
   at-row : {n p : ℕ} → JobRefused s n p → Comes s
-  at-judge : {t : Tree} {w : Word} → Judged s t w → Comes s
+  at-judge : {t : Tree} {w : Word} → BothPassed s t w → Comes s
 
 comes-day : {s rule file : List ℕ} {t : Tree} → Parted s rule file → Passed rule t → Comes s
 comes-day {rule = rule} {file = file} d p =

@@ -34,7 +34,7 @@ pub record DayRefused (file : List ℕ) (number place : ℕ) : Type 0 where
   pub means : DayMeaning file letters seconds (day.refusal number place letters seconds)
 
 -- the rule and the day pass their rows: the grammar reads the rule as t, and w is the day's events
-pub record Judged (s : List ℕ) (t : Tree) (w : Word) : Type 0 where
+pub record BothPassed (s : List ℕ) (t : Tree) (w : Word) : Type 0 where
   pub rule : List ℕ
   pub file : List ℕ
   pub parted : Parted s rule file
@@ -66,13 +66,13 @@ pub data JobRefused (s : List ℕ) : ℕ → ℕ → Type 0 where
 pub data JobMeaning (s old : List ℕ) : JobAnswer → Type 0 where
   row-refused : {n p : ℕ} → JobRefused s n p → JobMeaning s old (refusal n p old)
   -- 15, last: the buffer is shorter than the text
-  short-buffer : {t : Tree} {w : Word} {f c : ℕ} {text : List ℕ} → Judged s t w → Lists w t f c text → length old < length text
+  short-buffer : {t : Tree} {w : Word} {f c : ℕ} {text : List ℕ} → BothPassed s t w → Lists w t f c text → length old < length text
       → JobMeaning s old (refusal 15 0 old)
-  accepted : {t : Tree} {w : Word} {f c : ℕ} {text : List ℕ} → Judged s t w → Lists w t f c text → length text ≤ length old
+  accepted : {t : Tree} {w : Word} {f c : ℕ} {text : List ℕ} → BothPassed s t w → Lists w t f c text → length text ≤ length old
       → JobMeaning s old (acceptance f c text old)
 
 -- what the program writes for the job s: the listing, or "Refused: one line `X`, number, place."
 -- That `jobText` is the one text which is so written is `text-writes` and `writes-is` in proofs/Results.
 pub data Writes (s : List ℕ) : List ℕ → Type 0 where
-  writes-list : {t : Tree} {w : Word} {f c : ℕ} {text : List ℕ} → Judged s t w → Lists w t f c text → Writes s text
+  writes-list : {t : Tree} {w : Word} {f c : ℕ} {text : List ℕ} → BothPassed s t w → Lists w t f c text → Writes s text
   writes-refusal : {n p : ℕ} → JobRefused s n p → Writes s (refusalLine n p)

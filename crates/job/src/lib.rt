@@ -1,5 +1,5 @@
 // Jobs: a rule and a day, judged, and the text that lists the spans that obey.
-mod parts;
+mod first_line;
 
 use day::Outcome as DayOutcome;
 use judge::Outcome as JudgeOutcome;
@@ -35,14 +35,14 @@ pub fn run(job: &[u8], out: &mut [u8]) -> Answer
     ensures value { λ r. ⌜ jobValues r (now (out .exit)) ≡ jobAnswer (now (job .entry)) (now (out .entry)) ⌝ }
     ensures meaning { λ r. ⌜ JobMeaning (now (job .entry)) (now (out .entry)) (jobValues r (now (out .exit))) ⌝ }
 {
-    let end = parts::line_end(job);
+    let end = first_line::line_end(job);
     if end == job.len() {
         return refused(verdict::refusal(16, 0));
     }
     run_rule(&job[2..end], &job[end + 1..], out)
 }
 
-// A refusal writes nothing.
+// The answer to a refused job: number and place, all else 0.
 fn refused(verdict: Verdict) -> Answer
     ensures { λ r. ⌜ ((old : List ℕ) → jobValues r old ≡ refusal (verdict .number) (verdict .place) old) ⌝ }
 {

@@ -9,7 +9,7 @@ use mathlib.Core.List.{List, [], _∷_, _++_, List·Memᴰ, List·Memᴰ·head, 
 use mathlib.Core.List.{List·Memᴰ·append-cases, Memᴰ·append-left, Memᴰ·append-right}
 use Rattle.work.specs.Spans.{Spans, Before, InOrder}
 use Rattle.work.specs.SpansComputed.{listIf}
-use Rattle.listing.specs.Marked.{ends, starts, marks, marked}
+use Rattle.listing.specs.Marked.{ends, starts, isMarked, marked}
 
 -- ---- the members
 -- s begins at i, ends from j to j + d - 1, and passes
@@ -71,10 +71,10 @@ starts-hit f (suc d) i s h = go (eq-or-lt-of-le (h .0)) (starts-hit f d (suc i) 
     go (inr l) r = Memᴰ·append-right (ends (f i) i (suc d) i) (r (l, h .1, omega (arith, h .2), h .3))
 
 pub marked-has : (n : ℕ) (a : List ℕ) (p : ℕ × ℕ)
-    → List·Memᴰ p (marked n a) ↔ ((p .0 ≤ p .1) × (p .1 ≤ n) × (marks n a (p .0) (p .1) ≡ true))
+    → List·Memᴰ p (marked n a) ↔ ((p .0 ≤ p .1) × (p .1 ≤ n) × (isMarked n a (p .0) (p .1) ≡ true))
 marked-has n a p = (
-  λ m. let h = starts-in (marks n a) (suc n) 0 p m in (h .1, omega (arith, h .2), h .3),
-  λ h. starts-hit (marks n a) (suc n) 0 p (omega arith, h .0, omega (arith, h .1), h .2),
+  λ m. let h = starts-in (isMarked n a) (suc n) 0 p m in (h .1, omega (arith, h .2), h .3),
+  λ h. starts-hit (isMarked n a) (suc n) 0 p (omega arith, h .0, omega (arith, h .1), h .2),
 )
 
 -- ---- their order
@@ -102,7 +102,7 @@ starts-order f (suc d) i =
     (λ p q k l. let e = ends-in (f i) i (suc d) i p k .0 in let h = starts-in f d (suc i) q l .0 in inl (omega arith))
 
 pub marked-order : (n : ℕ) (a : List ℕ) → InOrder (marked n a)
-marked-order n a = starts-order (marks n a) (suc n) 0
+marked-order n a = starts-order (isMarked n a) (suc n) 0
 
 -- ---- two lists in order with the same members are one list
 never-before : (p q : ℕ × ℕ) → Before p q → Before q p → ⊥

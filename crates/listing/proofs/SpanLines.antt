@@ -15,7 +15,7 @@ use Rattle.table.specs.Layout.{blockAt, rowBit}
 use Rattle.table.proofs.LayoutLaws.{row-span}
 use Rattle.listing.specs.declared.Heading.{Heading}
 use Rattle.listing.specs.Lines.{headLine, spanLine, spanLines}
-use Rattle.listing.specs.Marked.{ends, starts, marks, listing, rowLines, blockLines, Next}
+use Rattle.listing.specs.Marked.{ends, starts, isMarked, listing, rowLines, blockLines, Next}
 use Rattle.listing.proofs.WrittenLaws.{line-short}
 
 -- ---- a row
@@ -83,15 +83,15 @@ ends-same f g i (suc d) j h =
 -- the rows that are left of a block, of which one is read
 module _ (a row : List ℕ) (n i : ℕ) (short : n ≤ 255) (inside : i ≤ n)
     (read : (k : ℕ) → k < 256 → bitAt row k ≡ rowBit a (blockAt 0 n) i k) where
-  pub block-row : blockLines (marks n a) n i ≡ rowLines (bitAt row) i n i ++ blockLines (marks n a) n (i + 1)
+  pub block-row : blockLines (isMarked n a) n i ≡ rowLines (bitAt row) i n i ++ blockLines (isMarked n a) n (i + 1)
   block-row =
-      block-here (marks n a) n i inside
-      ∙ ap (λ (l : Spans). spanLines l ++ blockLines (marks n a) n (i + 1))
-      (ends-same (marks n a i) (bitAt row) i (suc n - i) i
+      block-here (isMarked n a) n i inside
+      ∙ ap (λ (l : Spans). spanLines l ++ blockLines (isMarked n a) n (i + 1))
+      (ends-same (isMarked n a i) (bitAt row) i (suc n - i) i
       (λ k l m. sym (read k (omega arith) ∙ row-span a (blockAt 0 n) i k l (omega arith))))
 
-  pub block-length : length (blockLines (marks n a) n i) ≡ length (rowLines (bitAt row) i n i) + length (blockLines (marks n a) n (i + 1))
-  block-length = ap length block-row ∙ length-append (rowLines (bitAt row) i n i) (blockLines (marks n a) n (i + 1))
+  pub block-length : length (blockLines (isMarked n a) n i) ≡ length (rowLines (bitAt row) i n i) + length (blockLines (isMarked n a) n (i + 1))
+  block-length = ap length block-row ∙ length-append (rowLines (bitAt row) i n i) (blockLines (isMarked n a) n (i + 1))
 
 -- ---- how long they are
 ends-few : (f : ℕ → Bool) (i d j : ℕ) → length (ends f i d j) ≤ d
@@ -122,11 +122,11 @@ pub block-most : (f : ℕ → ℕ → Bool) (n : ℕ) → n ≤ 255 → length (
 block-most f n h = omega (arith, lines-few (starts f (suc n - 0) 0), starts-few f (suc n - 0) 0 (omega arith))
 
 -- ---- the listing: its heading, and then all lines
-pub listing-is : (h : Heading) (a : List ℕ) → listing h a ≡ headLine h ++ blockLines (marks (h .n) a) (h .n) 0
+pub listing-is : (h : Heading) (a : List ℕ) → listing h a ≡ headLine h ++ blockLines (isMarked (h .n) a) (h .n) 0
 unfolding listing
 listing-is h a =
     let e : suc (h .n) ≡ suc (h .n) - 0 = omega arith in
-    ap (λ (d : ℕ). headLine h ++ spanLines (starts (marks (h .n) a) d 0)) e
+    ap (λ (d : ℕ). headLine h ++ spanLines (starts (isMarked (h .n) a) d 0)) e
 
-pub listing-length : (h : Heading) (a : List ℕ) → length (listing h a) ≡ length (headLine h) + length (blockLines (marks (h .n) a) (h .n) 0)
-listing-length h a = ap length (listing-is h a) ∙ length-append (headLine h) (blockLines (marks (h .n) a) (h .n) 0)
+pub listing-length : (h : Heading) (a : List ℕ) → length (listing h a) ≡ length (headLine h) + length (blockLines (isMarked (h .n) a) (h .n) 0)
+listing-length h a = ap length (listing-is h a) ∙ length-append (headLine h) (blockLines (isMarked (h .n) a) (h .n) 0)

@@ -1,4 +1,4 @@
--- The spans that a block marks, and the text that lists them. Assumes nothing.
+-- The spans that a block isMarked, and the text that lists them. Assumes nothing.
 use Prim.Native.Nat.{ℕ, zero, suc, _-_, _≤_, _<_}
 use mathlib.Core.Path.{_≡_}
 use mathlib.Core.Bool.{Bool, true, false}
@@ -21,13 +21,13 @@ starts f zero i = []
 starts f (suc d) i = ends (f i) i (suc d) i ++ starts f d (suc i)
 
 -- the bit of span (i, j) is 1 in a block for n events
-abbrev pub marks : ℕ → List ℕ → ℕ → ℕ → Bool
-marks n a i j = bitAt a (spanBit (blockAt 0 n) i j)
+abbrev pub isMarked : ℕ → List ℕ → ℕ → ℕ → Bool
+isMarked n a i j = bitAt a (spanBit (blockAt 0 n) i j)
 
 -- 01, The program: "each span whose bit is 1 in the first block .. by rising i and then rising j". That it has exactly these, in this
 -- order, are `marked-has` and `marked-order` in proofs/ListingLaws.
 abbrev pub marked : ℕ → List ℕ → Spans
-marked n a = starts (marks n a) (suc n) 0
+marked n a = starts (isMarked n a) (suc n) 0
 
 -- 01, The program: the `H` line, "then for each span whose bit is 1 in the first block `S`, i, j, by rising i and then rising j"
 unfoldable pub listing : Heading → List ℕ → List ℕ

@@ -7,7 +7,7 @@ ghost use Prim.Native.Nat.{_+_, _*_, _≤_};
 ghost use lib.ListN.{length};
 ghost use Rattle.bits.specs.Bit.{bitAt};
 ghost use Rattle.table.specs.Layout.{blockAt, Lies};
-ghost use Rattle.listing.specs.Marked.{marks, rowLines, blockLines, Next};
+ghost use Rattle.listing.specs.Marked.{isMarked, rowLines, blockLines, Next};
 ghost use Rattle.listing.specs.Written.{Written};
 
 // The first end from `from` to n whose bit is 1 in a row, or a number beyond n. A number of the row that has no such bit is passed at once.
@@ -44,7 +44,7 @@ fn row_length(row: &[u64], i: usize, n: usize) -> usize
 // The length of the lines of a block for n events.
 pub fn spans_length(block: &[u64], n: usize) -> usize
     requires { ⌜ Lies (blockAt 0 n) (length (now block)) ⌝ }
-    ensures { λ r. ⌜ (r ≡ length (blockLines (marks n (now (block .entry))) n 0)) × (r ≤ 44 * 65536) ⌝ }
+    ensures { λ r. ⌜ (r ≡ length (blockLines (isMarked n (now (block .entry))) n 0)) × (r ≤ 44 * 65536) ⌝ }
 {
     let mut sum = 0;
     let mut i = 0;
@@ -74,8 +74,8 @@ fn write_row(row: &[u64], i: usize, n: usize, out: &mut [u8], at: usize) -> usiz
 // Writes the lines of a block for n events; the answer is the offset behind them.
 pub fn write_spans(block: &[u64], n: usize, out: &mut [u8], at: usize) -> usize
     requires { ⌜ Lies (blockAt 0 n) (length (now block)) ⌝ }
-    requires { ⌜ at + length (blockLines (marks n (now block)) n 0) ≤ length (now out) ⌝ }
-    ensures { λ r. ⌜ Written (now (out .entry)) at (blockLines (marks n (now (block .entry))) n 0) (now (out .exit)) r ⌝ }
+    requires { ⌜ at + length (blockLines (isMarked n (now block)) n 0) ≤ length (now out) ⌝ }
+    ensures { λ r. ⌜ Written (now (out .entry)) at (blockLines (isMarked n (now (block .entry))) n 0) (now (out .exit)) r ⌝ }
 {
     let mut end = at;
     let mut i = 0;

@@ -11,9 +11,10 @@ use Rattle.regex.specs.Tree.{Tree, specials}
 use Rattle.work.specs.Count.{fullCount}
 use Rattle.work.specs.Table.{needOf}
 use Rattle.work.specs.TableComputed.{table, found}
-use Rattle.verdict.specs.Verdicts.{refused, accepted}
+use Rattle.verdict.specs.Verdicts.{accepted}
 use Rattle.verdict.specs.declared.Verdict.{Verdict}
 use Rattle.matcher.specs.MatchAnswer.{MatchAnswer, values, told, refusalVerdict}
+use Rattle.matcher.specs.declared.Refusal.the-variants as why
 use Rattle.matcher.specs.declared.Fit.{Fit}
 use Rattle.matcher.specs.declared.Fit.the-variants as fit
 
@@ -26,9 +27,9 @@ foreignAt w = leading isEvent w
 -- Of a rule's k, a word and the table at entry; accepted where nothing refuses them.
 unfoldable pub fitAnswer : ℕ → Word → List ℕ → Verdict
 fitAnswer k w old =
-    cond (ltb 255 (length w)) (refused 7 0)
-    (cond (ltb (foreignAt w) (length w)) (refused 8 (foreignAt w))
-    (cond (ltb (length old) (needOf k (length w))) (refused 9 0) (accepted 0 0)))
+    cond (ltb 255 (length w)) (refusalVerdict why.LongWord)
+    (cond (ltb (foreignAt w) (length w)) (refusalVerdict (why.ForeignEvent (foreignAt w)))
+    (cond (ltb (length old) (needOf k (length w))) (refusalVerdict why.ShortTable) (accepted 0 0)))
 
 -- the same of what the code answers
 abbrev pub fitValues : Fit → Verdict
@@ -38,7 +39,7 @@ fitValues (fit.Unfit r) = refusalVerdict r
 -- ---- the second step
 -- 01: "On 10 the needed numbers of the table are all 0 and the reported count is the limit"; "those beyond are never touched"
 abbrev pub spent : ℕ → ℕ → List ℕ → MatchAnswer
-spent need limit old = values 10 0 0 limit (replicate need 0 ++ drop need old)
+spent need limit old = told (refusalVerdict (why.Spent limit)) (replicate need 0 ++ drop need old)
 
 -- the blocks of the rule t, and what lay beyond them
 abbrev pub acceptance : Tree → Word → List ℕ → MatchAnswer

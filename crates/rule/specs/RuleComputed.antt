@@ -11,7 +11,12 @@ use Rattle.regex.specs.TreeOf.{treeOf}
 use Rattle.regex.specs.Scan.{scanned}
 use Rattle.regex.specs.declared.ScanResult.{ScanResult}
 use Rattle.regex.specs.declared.ScanResult.the-variants.{Complete, Broken}
-use Rattle.rule.specs.RuleAnswer.{RuleAnswer, isRuleByte, refusal, acceptance}
+use Rattle.rule.specs.RuleAnswer.{RuleAnswer, isRuleByte, unused, refusalVerdict, told, acceptance}
+use Rattle.rule.specs.declared.Refusal.{Refusal}
+use Rattle.rule.specs.declared.Refusal.the-variants.{EmptyText, LongText, ForeignByte, NoSentence, ManyNodes, ManySpecials}
+
+abbrev pub refusedBy : Refusal → RuleAnswer
+refusedBy r = told (refusalVerdict r) 0 0 (unused 64)
 
 -- the offset of the first byte outside the list; the length where there is none
 abbrev pub foreignAt : List ℕ → ℕ
@@ -19,16 +24,16 @@ foreignAt s = leading isRuleByte s
 
 -- 01, numbers 5 and 6: "m over 64", "k over 7"
 abbrev pub sized : Tree → RuleAnswer
-sized t = cond (ltb 64 (size t)) (refusal 5 0) (cond (ltb 7 (specials t)) (refusal 6 0) (acceptance t))
+sized t = cond (ltb 64 (size t)) (refusedBy ManyNodes) (cond (ltb 7 (specials t)) (refusedBy ManySpecials) (acceptance t))
 
 -- 01, number 4: "not a sentence"
 abbrev pub afterScan : List ℕ → ScanResult → RuleAnswer
 afterScan s (Complete m k) = sized (treeOf s)
-afterScan s (Broken n) = refusal 4 n
+afterScan s (Broken n) = refusedBy (NoSentence n)
 
 -- 01, numbers 1, 2 and 3: "empty", "over 255 bytes", "a byte outside the list"
 unfoldable pub ruleAnswer : List ℕ → RuleAnswer
 ruleAnswer s =
-    cond (eqb (length s) 0) (refusal 1 0)
-    (cond (ltb 255 (length s)) (refusal 2 0)
-    (cond (ltb (foreignAt s) (length s)) (refusal 3 (foreignAt s)) (afterScan s (scanned s))))
+    cond (eqb (length s) 0) (refusedBy EmptyText)
+    (cond (ltb 255 (length s)) (refusedBy LongText)
+    (cond (ltb (foreignAt s) (length s)) (refusedBy (ForeignByte (foreignAt s))) (afterScan s (scanned s))))

@@ -15,7 +15,7 @@ ghost use Rattle.regex.specs.Scan.{scanned};
 ghost use Rattle.regex.specs.TreeOf.{treeOf};
 ghost use Rattle.regex.specs.declared.ScanResult.the-variants.{Complete};
 ghost use Rattle.rule.specs.declared.Outcome.the-variants.{Refused};
-ghost use Rattle.rule.specs.RuleAnswer.{ruleValues, refusalVerdict, outcomeVerdict, unused};
+ghost use Rattle.rule.specs.RuleAnswer.{ruleValues, refusalVerdict, outcomeVerdict, nodeCount, specialCount, unused};
 ghost use Rattle.rule.specs.RuleComputed.{ruleAnswer, sized};
 ghost use Rattle.rule.specs.RuleMeaning.{RuleMeaning};
 
@@ -121,5 +121,25 @@ pub fn outcome_verdict(outcome: Outcome) -> Verdict
     match outcome {
         Outcome::Accepted(m, k) => verdict::acceptance(0, 0),
         Outcome::Refused(refusal) => refusal_verdict(refusal),
+    }
+}
+
+// m, the number of nodes; 0 on a refusal.
+pub fn node_count(outcome: Outcome) -> usize
+    ensures { λ r. ⌜ r ≡ nodeCount outcome ⌝ }
+{
+    match outcome {
+        Outcome::Accepted(m, k) => m,
+        Outcome::Refused(refusal) => 0,
+    }
+}
+
+// k, the number of special nodes; 0 on a refusal.
+pub fn special_count(outcome: Outcome) -> usize
+    ensures { λ r. ⌜ r ≡ specialCount outcome ⌝ }
+{
+    match outcome {
+        Outcome::Accepted(m, k) => k,
+        Outcome::Refused(refusal) => 0,
     }
 }

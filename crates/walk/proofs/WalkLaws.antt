@@ -38,15 +38,6 @@ step-within t r p q g h =
     (λ (f : SpanStep (t .specials) (t .firsts) (t .table) (length (t .word)) p q). f .to) g′)
     g
 
--- a step does not lead back
-step-on : (t : Automaton) (p q : ℕ) → Step t p q → p / 128 ≤ q / 128
-step-on t p q g =
-    ⊎-elim (λ (f : FreeStep (t .closed) p q). let e = f .number in omega arith)
-    (λ g′.
-    ⊎-elim (λ (f : LetterStep (t .letters) (t .word) p q). let e = f .exit in omega arith)
-    (λ (f : SpanStep (t .specials) (t .firsts) (t .table) (length (t .word)) p q). f .from) g′)
-    g
-
 -- a test that cannot pass fails
 fails : (x : Bool) → (x ≡ true → ⊥) → x ≡ false
 fails true h = absurd (h refl)

@@ -1,6 +1,5 @@
 // The C interface, include/wuzlevor.h: each call leaves in its buffers what the library's call leaves, writes the answer as numbers, and
 // returns its number.
-mod counts;
 mod row;
 
 use verdict::Verdict;
@@ -37,8 +36,8 @@ pub extern "C" fn wuz_read_rule(text: &[u8], answer: &mut [u64], nodes: &mut [u6
     let outcome = reading.outcome;
     let records = reading.nodes;
     let said = rule::outcome_verdict(outcome);
-    let m = counts::node_count(outcome);
-    let k = counts::special_count(outcome);
+    let m = rule::node_count(outcome);
+    let k = rule::special_count(outcome);
     row::write_six(answer, said, m as u64, k as u64);
     row::write_nodes(nodes, records, m);
     said.number
@@ -62,7 +61,7 @@ pub extern "C" fn wuz_read_day(
     }
     let outcome = day::read(file, letters, seconds);
     let said = day::outcome_verdict(outcome);
-    let n = counts::event_count(outcome);
+    let n = day::event_count(outcome);
     row::write_five(answer, said, n as u64);
     said.number
 }

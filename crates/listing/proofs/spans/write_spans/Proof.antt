@@ -3,7 +3,7 @@ use Prim.Native.Nat.{_+_, _-_, _≤_}
 use native.Mathlib.Omega.{arith}
 use mathlib.Core.Path.{refl}
 use borrow.Author.Needs.{needs}
-use Rattle.listing.specs.Marked.{marks, blockLines}
+use Rattle.listing.specs.Marked.{isMarked, blockLines}
 use Rattle.listing.proofs.WrittenLaws.{PartWritten, part-start, part-fits, part-more, part-long, part-done}
 use Rattle.listing.proofs.SpanLines.{block-over, block-row, block-length}
 use Rattle.listing.proofs.spans.write_spans.Statement.{statement}
@@ -12,7 +12,7 @@ use Rattle.listing.proofs.spans.write_spans.Tie as tie
 pub write-spans-spec : {M : Type 1} → statement M
 write-spans-spec =
     tie.close (tie.spec
-    (λ block n out₀ at end₀ i₀ out end i. PartWritten out₀ at (blockLines (marks n block) n 0) (blockLines (marks n block) n i) out end)
+    (λ block n out₀ at end₀ i₀ out end i. PartWritten out₀ at (blockLines (isMarked n block) n 0) (blockLines (isMarked n block) n i) out end)
     (λ block n out₀ at end₀ i₀ out end i. n + 1 - i)
     -- loop-holds
     (λ c. part-start (c .before .before .args .out .now) (c .before .before .args .at) refl)
@@ -37,11 +37,11 @@ write-spans-spec =
     let l = c .before .before .before .before .before .before .before .loop in
     let r = c .before .before .before .before .before .read-row in
     let e = block-row (a .block .now) (r .result) (a .n) (l .i) (s .pre .0 .short) (omega arith) (r .ensures) in
-    part-more (blockLines (marks (a .n) (a .block .now)) (a .n) (l .i + 1)) (l .inv) e (c .before .before .write-row .ensures))
+    part-more (blockLines (isMarked (a .n) (a .block .now)) (a .n) (l .i + 1)) (l .inv) e (c .before .before .write-row .ensures))
     -- same-length
     (λ c. part-long (c .before .loop .inv))
     -- returns
     (λ c.
     let a = c .before .before .before .before .args in
     let l = c .before .loop in
-    part-done (l .inv) (block-over (marks (a .n) (a .block .now)) (a .n) (l .i) (omega arith))))
+    part-done (l .inv) (block-over (isMarked (a .n) (a .block .now)) (a .n) (l .i) (omega arith))))

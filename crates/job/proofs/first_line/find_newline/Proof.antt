@@ -9,8 +9,8 @@ use borrow.Author.Tests.{eq-eqb, ne-eqb}
 use Rattle.event.specs.Leading.{leading}
 use Rattle.event.proofs.LeadingLaws.{leading-on, leading-here, leading-end}
 use Rattle.job.specs.JobComputed.{notNewline}
-use Rattle.job.proofs.parts.find_newline.Statement.{statement}
-use Rattle.job.proofs.parts.find_newline.Tie as tie
+use Rattle.job.proofs.first_line.find_newline.Statement.{statement}
+use Rattle.job.proofs.first_line.find_newline.Tie as tie
 
 -- the loop's invariant and measure
 abbrev inv : tie.InvT-loop

@@ -5,8 +5,8 @@ use Rattle.event.proofs.Tails.{tail, tail-length}
 use Rattle.event.proofs.LeadingLaws.{leading-found}
 use Rattle.job.specs.JobComputed.{notNewline}
 use Rattle.job.proofs.FirstLine.{no-room, no-tag, no-tab, line-end}
-use Rattle.job.proofs.parts.line_end.Statement.{statement}
-use Rattle.job.proofs.parts.line_end.Tie as tie
+use Rattle.job.proofs.first_line.line_end.Statement.{statement}
+use Rattle.job.proofs.first_line.line_end.Tie as tie
 
 pub line-end-spec : {M : Type 1} → statement M
 line-end-spec =
