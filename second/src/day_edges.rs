@@ -1,11 +1,12 @@
 //! The days that walk document 01's edges.
 
-use crate::limits::{LAST_SECOND, MAX_DAY_BYTES, MAX_DAY_LINES};
+use crate::letter_edges;
+use crate::limits::{LAST_SECOND, LETTERS, MAX_DAY_BYTES, MAX_DAY_LINES};
 use crate::lines::{good_line, joined, Line, WRONG};
 use crate::stream::Case;
 
 /// Days of a few lines that document 01's text about seconds and about order asks for.
-const SHORT: [&[u8]; 30] = [
+const SHORT: [&[u8]; 37] = [
     b"",
     b"E\t0\ta\n",
     b"E\t0\ta\nE\t0\ta\n",
@@ -13,6 +14,12 @@ const SHORT: [&[u8]; 30] = [
     b"E\t9\ta\nE\t10\ta\n",
     b"E\t99\ta\nE\t100\tb\nE\t1000\tc\nE\t10000\td\n",
     b"E\t0\ta\nE\t86399\tb\nE\t86399\tc\n",
+    b"E\t0\ta\nE\t0\tA\nE\t0\tz\nE\t0\tZ\n",
+    // Tags stand as letters, and are tags by their place alone.
+    b"E\t0\tE\n",
+    b"E\t0\tR\nE\t1\tS\nE\t1\tX\nE\t2\tH\nE\t2\tD\nE\t3\te\n",
+    b"E\tE\tE\n",
+    b"A\t0\tE\n",
     // The second falls.
     b"E\t10\ta\nE\t9\ta\n",
     b"E\t1\ta\nE\t0\ta\n",
@@ -20,11 +27,13 @@ const SHORT: [&[u8]; 30] = [
     b"E\t1\ta\nE\t5\tb\nE\t4\tc\n",
     b"E\t5\ta\nE\t1\tb\nE\t3\tc\n",
     b"E\t65536\ta\nE\t1\tb\n",
-    // In one line 12 comes before 13.
     b"E\t86400\tA\n",
+    b"E\t5\ta\nE\t4\tA\n",
+    // In one line 12 comes before 13.
+    b"E\t86400\t_\n",
     b"E\t99999\ta",
     b"E\t86400\ta\r\n",
-    b"E\t5\ta\nE\t4\tA\n",
+    b"E\t5\ta\nE\t4\t_\n",
     b"E\t5\ta\nE\t4\taa\n",
     b"E\t5\ta\nE\t4\ta",
     b"E\t5\ta\nE\t04\ta\n",
@@ -35,7 +44,7 @@ const SHORT: [&[u8]; 30] = [
     b"E\t86400\ta\nE\n",
     b"E\t5\ta\nE\t4\ta\nE\n",
     b"E\t86400\ta\nE\t0\ta\n",
-    b"E\t5\ta\nE\t4\tA\nE\t3\ta\n",
+    b"E\t5\ta\nE\t4\t[\nE\t3\ta\n",
     b"E\t5\ta\nE\t4\ta\nE\t86400\ta\nx",
     // Nothing that looks like a line, or a job instead of a day.
     b"\xef\xbb\xbfE\t0\ta\n",
@@ -55,6 +64,7 @@ pub fn cases() -> Vec<Case> {
     days.extend(wrong_parts());
     days.extend(changed_bytes());
     days.extend(every_byte());
+    days.extend(letter_edges::ENDS.into_iter().flat_map(letter_edges::days));
     days.extend(many_lines());
     days.extend(many_bytes());
     let mut cases: Vec<Case> = days.into_iter().map(with_enough).collect();
@@ -135,9 +145,9 @@ fn many_lines() -> Vec<Vec<u8>> {
         full_and(b"E\t9\ta\n"),
         full_and(b"\n"),
         with(255, b"E\t9\ta", b""),
-        with(1, b"E\t0\tA\n", b"E\t9\ta\n"),
+        with(1, b"E\t0\t_\n", b"E\t9\ta\n"),
         with(128, b"\n", b"E"),
-        with(255, b"E\t8\ta\n", b"E"),
+        with(255, b"E\t3\ta\n", b"E"),
     ]
 }
 
@@ -154,7 +164,8 @@ fn many_bytes() -> Vec<Vec<u8>> {
 
 /// Lines that all differ, none longer than it must be.
 fn different_lines(count: usize) -> Vec<Line> {
-    let line = |index: usize| good_line(index / 26, b'a' + (index % 26) as u8);
+    let letters = LETTERS.len();
+    let line = |index: usize| good_line(index / letters, LETTERS[index % letters]);
     (0..count).map(line).collect()
 }
 

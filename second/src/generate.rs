@@ -3,14 +3,15 @@
 use crate::random::Random;
 use crate::rule::Kind;
 
-/// The small alphabets of random cases; with few letters more words obey.
-const ALPHABETS: [&[u8]; 4] = [b"ab", b"abc", b"az", b"bmz"];
+/// The small alphabets of random cases; with few letters more words obey. In some of them a letter
+/// stands in both cases.
+const ALPHABETS: [&[u8]; 8] = [b"ab", b"abc", b"az", b"bmz", b"aA", b"AB", b"bBZ", b"azAZ"];
 
 /// The bytes of random texts: mostly listed ones, operators more often than their share.
-const LISTED: &[u8] = b"aabcz01||&&!!**(())";
+const LISTED: &[u8] = b"aabzAAZ01||&&!!**(())";
 
 /// Printable bytes that no rule lists, most of them next to a listed one.
-const FOREIGN: &[u8] = b"@`{/2 ;'+,}~\"%^_#$.?";
+const FOREIGN: &[u8] = b"@[\\]^_`{/2 ;'+,}~\"%#$.?";
 
 /// The most that a random sentence may have.
 pub struct Bounds {

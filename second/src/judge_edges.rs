@@ -3,6 +3,8 @@
 use std::collections::BTreeSet;
 
 use crate::calls::{case, Call};
+use crate::letter_edges::{self, ENDS};
+use crate::limits::LETTERS;
 use crate::rule_edges::{example_1, run, texts_of};
 use crate::stream::Case;
 use crate::{rule, table};
@@ -152,6 +154,30 @@ const STARTS: [(&str, &str); 14] = [
     ("z|!(a|z)", "azbyz"),
 ];
 
+/// Letters of both cases: no letter is another one, and a complement has words of all of them.
+const BOTH_CASES: [(&str, &str); 20] = [
+    ("a", "A"),
+    ("A", "a"),
+    ("A", "A"),
+    ("Z", "zZ"),
+    ("z", "Zz"),
+    ("A*", "AaA"),
+    ("aA", "aAaa"),
+    ("(a|A)*", "aAbA"),
+    ("a&A", "aA"),
+    ("!a", "A"),
+    ("!a", "aA"),
+    ("!A", "a"),
+    ("!A", "Aa"),
+    ("!a*", "aAa"),
+    ("!(A*)", "AaA"),
+    ("!!A", "aA"),
+    ("!a&!A", "aAb"),
+    ("!a!A", "AaZ"),
+    ("!(a|z)*", "zAZa"),
+    ("!(A|Z)*", "ZazA"),
+];
+
 /// Lengths of words about the edges of a row's numbers, the highest ones included.
 pub const LENGTHS: [usize; 15] = [
     0, 1, 62, 63, 64, 65, 126, 127, 128, 129, 191, 192, 193, 254, 255,
@@ -173,14 +199,14 @@ const TABLE_CALLS: [(&str, &str); 5] = [
 ];
 
 /// Bytes that are no events: those beside the letters, the ends, and a few of a day or a rule.
-const NO_EVENTS: [u8; 12] = *b"`{\0\xffA@Z1!\n\t\x80";
+const NO_EVENTS: [u8; 12] = *b"`{\0\xff[@_1!\n\t\x80";
 
 /// One text for each refusal of a rule text, and more for those that name a place.
 pub const BAD_RULES: [&[u8]; 11] = [
     b"",
     &[b'a'; 256],
-    b"A",
-    b"aA",
+    b"_",
+    b"a_",
     b"ab\n",
     b"a|",
     b")",
@@ -266,14 +292,16 @@ fn short_sentences() -> Vec<Case> {
         .collect()
 }
 
-/// The alphabet as a word, and every letter as a rule.
+/// Every letter as a rule on itself in both cases, letters of both cases, and the alphabet as a word.
 fn about_letters() -> Vec<Case> {
-    let alphabet: Vec<u8> = (b'a'..=b'z').collect();
-    let letters = alphabet.iter().map(|&letter| vec![letter]);
-    let rules = letters.chain([b"!a*".to_vec(), alphabet.clone(), b"(x|y|z)*".to_vec()]);
-    rules
-        .map(|rule| Call::new(&rule, &alphabet).exact())
-        .collect()
+    let in_both_cases = |letter: u8| [letter.to_ascii_lowercase(), letter.to_ascii_uppercase()];
+    let on_itself = LETTERS.map(|letter| Call::new(&[letter], &in_both_cases(letter)));
+    let both_cases = BOTH_CASES.map(|(rule, word)| Call::new(rule.as_bytes(), word.as_bytes()));
+    let halves = LETTERS.chunks(LETTERS.len() / 2);
+    let rules = halves.chain([&b"!0"[..], b"!a*", b"!Z*", b"(x|y|z|A|B)*"]);
+    let on_alphabet = rules.map(|rule| Call::new(rule, LETTERS));
+    let calls = on_itself.into_iter().chain(both_cases).chain(on_alphabet);
+    calls.map(|call| call.exact()).collect()
 }
 
 /// Words whose rows end about the edges of their numbers; the long ones have one special node.
@@ -348,11 +376,14 @@ fn about_bytes() -> Vec<Case> {
             cases.push(case(20, u64::MAX, b"a*", &word));
         }
     }
-    let words: [&[u8]; 5] = [b"aBaC", b"a{a`", b"a`a{", b"\xff\0ab", b"aa\0\xff"];
+    let words: [&[u8]; 6] = [b"aBaC", b"a_a@", b"a{a`", b"a`a{", b"\xff\0ab", b"aa\0\xff"];
     cases.extend(words.map(|word| case(20, u64::MAX, b"a*", word)));
+    // With the table that the longest of these words needs, and a limit above all their counts.
+    let words = ENDS.into_iter().flat_map(letter_edges::words);
+    cases.extend(words.map(|word| case(16, 99, b"a", &word)));
     for place in [0, 63, 64, 127, 128, 254] {
         let mut word = run("a", 255);
-        word[place] = b'A';
+        word[place] = b'_';
         cases.push(case(2, u64::MAX, b"a", &word));
     }
     cases
@@ -361,7 +392,7 @@ fn about_bytes() -> Vec<Case> {
 /// Calls with several faults of 7 to 10, of which the lowest wins.
 fn about_order() -> Vec<Case> {
     let long = run("a", 256);
-    let long_and_bad = [run("a", 256), run("A", 1)].concat();
+    let long_and_bad = [run("a", 256), run("_", 1)].concat();
     let mut cases = vec![
         // The only fault is the word's length.
         case(1_028, u64::MAX, b"a", &long),
@@ -372,10 +403,10 @@ fn about_order() -> Vec<Case> {
         case(3, u64::MAX, b"a", &run("a", 511)),
         case(3, u64::MAX, b"a", &run("a", 512)),
         case(3, u64::MAX, b"a", &long_and_bad),
-        case(3, 0, b"a", &run("A", 256)),
+        case(3, 0, b"a", &run("_", 256)),
         case(0, 0, b"a", &run("\0", 300)),
     ];
-    for word in [b"aA", b"Aa", b"a\xff"] {
+    for word in [b"a_", b"_a", b"a\xff"] {
         for table in [0, 3, 11, 12, 15] {
             cases.extend([0, 4, u64::MAX].map(|limit| case(table, limit, b"a", word)));
         }
@@ -392,9 +423,9 @@ fn about_bad_rules() -> Vec<Case> {
             case(9, u64::MAX, rule, b""),
             case(9, 0, rule, b"a"),
             case(0, u64::MAX, rule, b"a"),
-            case(9, u64::MAX, rule, b"aB"),
-            case(3, 0, rule, b"Ba"),
-            case(0, 0, rule, &run("B", 256)),
+            case(9, u64::MAX, rule, b"a_"),
+            case(3, 0, rule, b"_a"),
+            case(0, 0, rule, &run("_", 256)),
         ]);
     }
     cases

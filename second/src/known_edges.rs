@@ -39,8 +39,9 @@ const SEVEN: [(&str, &str); 4] = [
     ("((!a&b*)a*&!(ab))b|!(b&!(ba))b", "aba"),
 ];
 
-/// Document 01's traps, but for C8 and C9, which are known days, and `1*`, which has its limits.
-const TRAPS: [(&str, &str); 4] = [
+/// Document 01's traps, but for C8 and C9, which are known days, and `1*`, which has its limits; then
+/// those of the letters.
+const TRAPS: [(&str, &str); 7] = [
     // Bits below the diagonal.
     ("!a", "aba"),
     // Marks that are left over from another start.
@@ -48,6 +49,10 @@ const TRAPS: [(&str, &str); 4] = [
     // A star that is chased around the empty word.
     ("(1|a)*", ""),
     ("(1|a)*", "a"),
+    // A capital is an event, a complement has words of all letters, and no letter is another one.
+    ("A", "A"),
+    ("!a", "aA"),
+    ("Z", "zZ"),
 ];
 
 /// All the calls, one group after another; the known days come first, in their order.
@@ -124,7 +129,7 @@ fn about_tables() -> [Case; 4] {
 
 /// Bytes that are no events; of two the first is named.
 fn about_bytes() -> [Case; 3] {
-    let words = [b"Aba", b"abA", b"a{A"];
+    let words = [b"_ba", b"ab_", b"a{_"];
     words.map(|word| case(table::need(0, word.len()), u64::MAX, b"a", word))
 }
 
@@ -133,10 +138,10 @@ fn about_bad_rules() -> [Case; 6] {
     let rules = [
         run("a", 0),
         run("a", 256),
-        run("aA", 1),
+        run("a_", 1),
         run("(a", 1),
         run("a", 33),
         complements(8),
     ];
-    rules.map(|rule| case(0, 0, &rule, b"aB"))
+    rules.map(|rule| case(0, 0, &rule, b"a_"))
 }

@@ -18,6 +18,7 @@ pub mod judge_edges;
 pub mod judge_large_edges;
 pub mod known_edges;
 pub mod language;
+pub mod letter_edges;
 pub mod limits;
 pub mod lines;
 pub mod printed;

@@ -1,8 +1,11 @@
 //! The alphabet and the bounds of document 01, each in one place so that a change is one line.
 
-/// Whether a byte is an event, which is also what may stand as a letter in a rule.
+/// The events, which are also the letters of a rule.
+pub const LETTERS: &[u8; 52] = b"abcdefghijklmnopqrstuvwxyzABCDEFGHIJKLMNOPQRSTUVWXYZ";
+
+/// Whether a byte is an event.
 pub fn is_event(byte: u8) -> bool {
-    byte.is_ascii_lowercase()
+    LETTERS.contains(&byte)
 }
 
 /// The longest rule text, in bytes.

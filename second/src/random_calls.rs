@@ -2,7 +2,7 @@
 
 use crate::calls::{case as any_call, Call};
 use crate::generate::{alphabet, any_byte, grow_tree, sentence, write_tree, Bounds};
-use crate::limits::{is_event, MAX_NODES, MAX_RULE_BYTES, MAX_SPECIAL, MAX_WORD};
+use crate::limits::{is_event, LETTERS, MAX_NODES, MAX_RULE_BYTES, MAX_SPECIAL, MAX_WORD};
 use crate::random::Random;
 use crate::stream::Case;
 use crate::{random_rules, rule, table};
@@ -27,8 +27,8 @@ const SHORT_WORD: usize = 40;
 /// The longest table that a drawn call lends: a little more than a word of 255 events can need.
 const LONGEST_TABLE: usize = 8_448;
 
-/// Bytes that are no events, most of them next to a letter.
-const NO_EVENTS: &[u8] = b"`{`{\0\xffAZ";
+/// Bytes that are no events, most of them next to a letter or between the two runs of letters.
+const NO_EVENTS: &[u8] = b"@[\\]^_`{\0\xff";
 
 /// A random call, seldom one that is refused for its rule or its word.
 pub fn case(random: &mut Random) -> Case {
@@ -129,7 +129,8 @@ fn good_word(random: &mut Random, rule: &[u8]) -> Vec<u8> {
     word_of(random, rule, n)
 }
 
-/// A word of so many events, nearly all of them letters of the rule.
+/// A word of so many events, nearly all of them letters of the rule; of the others about half are
+/// such a letter in the other case.
 pub fn word_of(random: &mut Random, rule: &[u8], n: usize) -> Vec<u8> {
     let mut letters: Vec<u8> = rule
         .iter()
@@ -141,13 +142,23 @@ pub fn word_of(random: &mut Random, rule: &[u8], n: usize) -> Vec<u8> {
     }
     let times = random.pick(&[10, 100, 1_000]);
     let event = |_| {
-        if random.one_in(times) {
-            b'a' + random.below(26) as u8
-        } else {
-            random.pick(&letters)
+        let letter = random.pick(&letters);
+        match random.below(2 * times) {
+            0 => random.pick(LETTERS),
+            1 => in_other_case(letter),
+            _ => letter,
         }
     };
     (0..n).map(event).collect()
+}
+
+/// A small letter for a capital one, and the other way round.
+fn in_other_case(letter: u8) -> u8 {
+    if letter.is_ascii_lowercase() {
+        letter.to_ascii_uppercase()
+    } else {
+        letter.to_ascii_lowercase()
+    }
 }
 
 /// Puts a byte that is no event in an event's place, or behind a word that has none.

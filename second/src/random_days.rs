@@ -1,7 +1,7 @@
 //! Random days for the command `draw`: good ones, damaged ones, and buffers that may be too short.
 
 use crate::generate::{any_byte, change_byte};
-use crate::limits::{LAST_SECOND, MAX_DAY_BYTES, MAX_DAY_LINES};
+use crate::limits::{LAST_SECOND, LETTERS, MAX_DAY_BYTES, MAX_DAY_LINES};
 use crate::lines::{empty_line, good_line, joined, Line, SECOND, WRONG};
 use crate::random::Random;
 use crate::stream::Case;
@@ -64,7 +64,7 @@ fn line_count(random: &mut Random) -> usize {
 /// So many good lines.
 fn good_lines(random: &mut Random, count: usize) -> Vec<Line> {
     let seconds = rising_seconds(random, count);
-    let line = |second| good_line(second, random_letter(random));
+    let line = |second| good_line(second, random.pick(LETTERS));
     seconds.into_iter().map(line).collect()
 }
 
@@ -80,11 +80,6 @@ pub fn rising_seconds(random: &mut Random, count: usize) -> Vec<usize> {
     let mut seconds: Vec<usize> = (0..count).map(|_| first + random.below(width)).collect();
     seconds.sort_unstable();
     seconds
-}
-
-/// Any letter.
-fn random_letter(random: &mut Random) -> u8 {
-    b'a' + random.below(26) as u8
 }
 
 /// Damages a line, mostly by a wrong part; a new second may be too late, too early or still good.
@@ -106,7 +101,7 @@ pub fn damage(random: &mut Random, lines: &mut Vec<Line>) {
 /// A day of about as many bytes as there may be, of long lines or of short ones.
 fn day_of_many_bytes(random: &mut Random) -> Vec<u8> {
     let second = random.pick(&[0, DAY - 1, DAY - 1]);
-    let mut lines = vec![good_line(second, random_letter(random)); MAX_DAY_BYTES / 6 + 1];
+    let mut lines = vec![good_line(second, random.pick(LETTERS)); MAX_DAY_BYTES / 6 + 1];
     if random.one_in(3) {
         damage(random, &mut lines);
     }
@@ -122,7 +117,7 @@ fn arbitrary_bytes(random: &mut Random) -> Vec<u8> {
         (0..length).map(|_| any_byte(random)).collect()
     } else {
         (0..length)
-            .map(|_| random.pick(b"EE\t\t019a\n\n"))
+            .map(|_| random.pick(b"EE\t\t019aZ\n\n"))
             .collect()
     }
 }

@@ -1,12 +1,9 @@
 //! Random rule texts for the command `draw`: sentences of all sizes, and what is near to them.
 
 use crate::generate::{any_byte, change_byte, grow_tree, random_byte, write_tree};
-use crate::limits::{MAX_NODES, MAX_RULE_BYTES, MAX_SPECIAL};
+use crate::limits::{LETTERS, MAX_NODES, MAX_RULE_BYTES, MAX_SPECIAL};
 use crate::random::Random;
 use crate::rule::is_leaf;
-
-/// All letters, for nothing but the reading is asked of these rules.
-const LETTERS: &[u8] = b"abcdefghijklmnopqrstuvwxyz";
 
 /// Lengths of texts without a plan: the shortest, and those about the longest.
 const LENGTHS: [usize; 9] = [0, 1, 2, 3, 254, 255, 256, 257, 300];
@@ -65,7 +62,8 @@ fn any_sentence(random: &mut Random) -> Vec<u8> {
     }
 }
 
-/// The text of a random tree of so many nodes, with at most so many special ones.
+/// The text of a random tree of so many nodes, with at most so many special ones; of all letters,
+/// for nothing but the reading is asked of these rules.
 fn tree_text(random: &mut Random, nodes: usize, special: usize) -> Vec<u8> {
     let tree = grow_tree(random, LETTERS, nodes, special);
     write_tree(random, &tree)

@@ -1,5 +1,7 @@
 //! The rule texts that walk document 01's edges.
 
+use crate::letter_edges;
+
 /// What document 01 writes down itself: C1 to C12, its Edges, and the rules in its prose.
 const NAMED: [&str; 22] = [
     "1",
@@ -27,7 +29,7 @@ const NAMED: [&str; 22] = [
 ];
 
 /// Sentences that tell the operators' tightness, their grouping and every offset apart.
-const SHAPES: [&str; 60] = [
+const SHAPES: [&str; 66] = [
     "ab",
     "a(b)",
     "(a)b",
@@ -88,10 +90,16 @@ const SHAPES: [&str; 60] = [
     "10*|!1",
     "z!0(1*)|!(y&x)w",
     "abcdefghijklmnopqrstuvwxyz",
+    "ABCDEFGHIJKLMNOPQRSTUVWXYZ",
+    "aA",
+    "aBcD",
+    "!A|a&!(A)*",
+    "Z!0(1*)|!(y&X)W",
+    "(E|R)*",
 ];
 
 /// Texts that are no sentences, beyond the short ones that are all walked.
-const NO_SENTENCES: [&str; 32] = [
+const NO_SENTENCES: [&str; 34] = [
     "a||b",
     "a|&b",
     "a&|b",
@@ -124,12 +132,14 @@ const NO_SENTENCES: [&str; 32] = [
     "!()a",
     "*a*b",
     "a|(b&(c*)",
+    ")A",
+    "A|B)Z",
 ];
 
 /// Foreign bytes; where the text fails before them, 3 still comes first, at the first of them.
 const FOREIGN: [&[u8]; 20] = [
-    b"aB",
-    b"aBcD",
+    b"a_",
+    b"a_c@",
     b"a b",
     b"a\tb",
     b"ab\0",
@@ -141,13 +151,13 @@ const FOREIGN: [&[u8]; 20] = [
     b"\xc3\xa4",
     b"a2",
     b"a|b;",
-    b")A",
-    b"()()A",
+    b")_",
+    b"()()`",
     b"a||b/c",
     b"**a*)~",
     b"(a|\x7f",
-    b")a)B)C",
-    b"!!!!!!!!A",
+    b")a)[)@",
+    b"!!!!!!!!_",
 ];
 
 /// One byte for each that the grammar tells apart.
@@ -162,6 +172,7 @@ pub fn texts() -> Vec<Vec<u8>> {
     texts.extend(as_bytes(NO_SENTENCES));
     texts.extend(FOREIGN.map(<[u8]>::to_vec));
     texts.extend((0..=255).map(|byte| vec![byte]));
+    texts.extend(letter_edges::ENDS.into_iter().flat_map(letter_edges::rules));
     texts.extend(texts_of(&SIGNS, 2));
     texts.extend(texts_of(&SIGNS, 3));
     texts.extend(about_nodes());
@@ -238,7 +249,7 @@ fn about_order() -> Vec<Vec<u8>> {
         [run("!", 8), run("a", 29)].concat(),
         [run("!", 64), run("a", 1)].concat(),
         [run("a&", 40), run("a", 1)].concat(),
-        [run("a", 40), run("A)", 1)].concat(),
+        [run("a", 40), run("_)", 1)].concat(),
     ]
 }
 
@@ -283,14 +294,14 @@ fn about_length() -> Vec<Vec<u8>> {
         followed("a", 254, "|"),
         followed("a", 254, ")"),
         followed("a", 254, "2"),
-        followed("a|", 127, "A"),
+        followed("a|", 127, "_"),
         run("a", 256),
         run("a", 257),
         run("a", 300),
         run("(", 256),
         run(")", 256),
-        run("A", 256),
-        followed("a", 255, "A"),
+        run("_", 256),
+        followed("a", 255, "_"),
     ]
 }
 

@@ -48,7 +48,7 @@ fn cases_hold_sentences_words_and_results() {
         assert_eq!(spans, &expected);
     }
     let all: String = lines.iter().map(|line| line[0].as_str()).collect();
-    for sign in "ab01|&!*()".chars() {
+    for sign in "abzABZ01|&!*()".chars() {
         assert!(all.contains(sign), "no {sign} in any case");
     }
 }

@@ -34,10 +34,10 @@ fn lines(count: usize, line: &str) -> Vec<u8> {
 
 #[test]
 fn letters_and_seconds_are_written_in_line_order() {
-    let day = b"E\t0\ta\nE\t7\tz\nE\t7\tm\nE\t86399\tb\n";
+    let day = b"E\t0\ta\nE\t7\tz\nE\t7\tM\nE\t86399\tb\n";
     let (answer, letters, seconds) = read_into(day, (6, 5));
     assert_eq!(answer, (0, 0, 4));
-    assert_eq!(letters, b"azmb##");
+    assert_eq!(letters, b"azMb##");
     assert_eq!(seconds, [0, 7, 7, 86_399, SECOND_DIRT]);
 }
 
@@ -68,7 +68,7 @@ fn seconds_of_every_length_pass() {
 }
 
 /// Lines that are not of the form, whatever stands before them.
-const BAD_LINES: [&[u8]; 33] = [
+const BAD_LINES: [&[u8]; 36] = [
     b"\n",
     b"E",
     b"E\n",
@@ -102,6 +102,9 @@ const BAD_LINES: [&[u8]; 33] = [
     b"E\t 1\ta\n",
     b"E\t100000\ta\n",
     b"E\t1\xff\ta\n",
+    b"E\t0\taA\n",
+    b"E\tE\tE\n",
+    b"A\t0\tE\n",
 ];
 
 #[test]
@@ -114,10 +117,10 @@ fn a_line_not_of_the_form_is_12() {
 }
 
 #[test]
-fn a_letter_outside_a_to_z_is_12() {
+fn a_byte_that_is_no_letter_is_12() {
     for byte in 0..=255u8 {
         let day = [b"E\t5\t", &[byte][..], b"\n"].concat();
-        let expected = if byte.is_ascii_lowercase() {
+        let expected = if byte.is_ascii_alphabetic() {
             (0, 0, 1)
         } else {
             (12, 1, 0)
@@ -146,7 +149,8 @@ fn a_second_below_the_line_before_is_13() {
 
 #[test]
 fn within_a_line_12_comes_before_13() {
-    assert_eq!(verdict(b"E\t99999\tA\n"), (12, 1, 0));
+    assert_eq!(verdict(b"E\t99999\t_\n"), (12, 1, 0));
+    assert_eq!(verdict(b"E\t99999\tA\n"), (13, 1, 0));
     assert_eq!(verdict(b"E\t86400\ta"), (12, 1, 0));
     assert_eq!(verdict(b"E\t5\ta\nE\t4\ta"), (12, 2, 0));
     assert_eq!(verdict(b"E\t5\ta\nE\t4\taa\n"), (12, 2, 0));
@@ -199,7 +203,7 @@ fn a_bad_line_before_the_256th_wins() {
         all[at - 1] = line;
         all.concat().into_bytes()
     };
-    assert_eq!(verdict(&with_line(255, "E\t7\tA\n")), (12, 255, 0));
+    assert_eq!(verdict(&with_line(255, "E\t7\t_\n")), (12, 255, 0));
     assert_eq!(verdict(&with_line(255, "E\t6\ta\n")), (13, 255, 0));
     assert_eq!(verdict(&with_line(1, "\n")), (12, 1, 0));
     assert_eq!(verdict(&with_line(256, "\n")), (14, 256, 0));
@@ -231,7 +235,7 @@ fn rewritten(line: &[u8]) -> Option<(u32, u8)> {
     let text = String::from_utf8(line.to_vec()).ok()?;
     let digits: String = text.chars().filter(char::is_ascii_digit).collect();
     let second: u32 = digits.parse().ok()?;
-    let letter = text.chars().rfind(char::is_ascii_lowercase)?;
+    let letter = text.chars().rfind(char::is_ascii_alphabetic)?;
     let same = second <= 99_999 && text == format!("E\t{second}\t{letter}\n");
     same.then_some((second, letter as u8))
 }
@@ -266,14 +270,14 @@ fn random_day(random: &mut Random) -> Vec<u8> {
     for _ in 0..random.below(6) {
         let step = random.pick(&[0, 1, 9, 90, 900, 9_000, 40_000]);
         second = (second + random.below(step + 1)).min(86_399);
-        day += &format!("E\t{second}\t{}\n", random.pick(b"abyz") as char);
+        day += &format!("E\t{second}\t{}\n", random.pick(b"abyzABEZ") as char);
     }
     day.into_bytes()
 }
 
 /// Puts in, takes out, replaces or swaps bytes of a day.
 fn damage(random: &mut Random, day: &mut Vec<u8>) {
-    let byte = random.pick(b"E\t\n0123456789abzAR -\0");
+    let byte = random.pick(b"E\t\n0123456789abzARZ@[\\]^_`{ -\0");
     let at = random.below(day.len() + 1);
     match random.below(4) {
         0 => day.insert(at, byte),

@@ -35,7 +35,7 @@ impl<'a> Chart<'a> {
     /// Whether some rule of formation gives the part, from shorter parts.
     fn derives(&self, i: usize, j: usize) -> bool {
         let (text, is) = (self.text, &self.sentence);
-        let leaf = j - i == 1 && matches!(text[i], b'a'..=b'z' | b'0' | b'1');
+        let leaf = j - i == 1 && matches!(text[i], b'A'..=b'Z' | b'a'..=b'z' | b'0' | b'1');
         let complement = text[i] == b'!' && is[i + 1][j];
         let star = text[j - 1] == b'*' && is[i][j - 1];
         let inner = j - i > 2 && is[i + 1][j - 1];
@@ -160,10 +160,10 @@ fn longer_random_texts_are_judged_as_the_grammar_says() {
     };
     let mut seen = [0, 0];
     for _ in 0..6_000 {
-        let mut text = sentence(&mut random, b"ab", &bounds);
+        let mut text = sentence(&mut random, b"aZ", &bounds);
         for _ in 0..random.below(3) {
             let at = random.below(text.len());
-            text[at] = random.pick(b"ab01|&!*()");
+            text[at] = random.pick(b"aB01|&!*()");
         }
         let expected = Chart::new(&text).verdict();
         seen[usize::from(expected == (0, 0))] += 1;

@@ -77,11 +77,11 @@ fn the_rule_is_every_byte_up_to_the_newline() {
     );
     assert_eq!(run(b"R\t!!!!!!!!a\n"), "X\t6\t0\n");
     assert_eq!(
-        run(format!("R\t{}\n", "A".repeat(255)).as_bytes()),
+        run(format!("R\t{}\n", "_".repeat(255)).as_bytes()),
         "X\t3\t0\n"
     );
     assert_eq!(
-        run(format!("R\t{}\n", "A".repeat(256)).as_bytes()),
+        run(format!("R\t{}\n", "_".repeat(256)).as_bytes()),
         "X\t2\t0\n"
     );
 }
@@ -102,7 +102,7 @@ fn the_rows_come_in_the_tables_order() {
 fn day_refusals_come_through() {
     assert_eq!(run(b"R\ta\nE\t86400\ta\n"), "X\t13\t1\n");
     assert_eq!(run(b"R\ta\nE\t5\ta\nE\t4\ta\n"), "X\t13\t2\n");
-    assert_eq!(run(b"R\ta\nE\t0\ta\nE\t0\tA\n"), "X\t12\t2\n");
+    assert_eq!(run(b"R\ta\nE\t0\ta\nE\t0\t_\n"), "X\t12\t2\n");
     let day = "E\t0\ta\n".repeat(256);
     assert_eq!(run(format!("R\ta\n{day}").as_bytes()), "X\t14\t256\n");
     let day = "\n".repeat(2_551);

@@ -210,7 +210,7 @@ fn a_word_over_255_is_7_before_8_9_and_10() {
         judge(b"a", &[b'a'; 256], u64::MAX, &mut table),
         refused(7, 0)
     );
-    assert_eq!(judge(b"a", &[b'A'; 256], 0, &mut table), refused(7, 0));
+    assert_eq!(judge(b"a", &[b'_'; 256], 0, &mut table), refused(7, 0));
     assert_eq!(judge(b"a", &[b'a'; 256], 0, &mut []), refused(7, 0));
     assert_eq!(table, [DIRT; 1028]);
 }
@@ -220,14 +220,14 @@ fn a_byte_outside_the_letters_is_8_at_the_first_one() {
     for byte in 0..=255u8 {
         let mut table = [DIRT; 16];
         let answer = judge(b"a", &[b'a', byte, byte], u64::MAX, &mut table);
-        if byte.is_ascii_lowercase() {
+        if byte.is_ascii_alphabetic() {
             assert_eq!(answer.number, 0, "byte {byte}");
         } else {
             assert_eq!(answer, refused(8, 1), "byte {byte}");
             assert_eq!(table, [DIRT; 16]);
         }
     }
-    assert_eq!(judge(b"a", b"A", u64::MAX, &mut [DIRT; 8]), refused(8, 0));
+    assert_eq!(judge(b"a", b"_", u64::MAX, &mut [DIRT; 8]), refused(8, 0));
     let last = [&[b'a'; 254][..], b"0"].concat();
     assert_eq!(
         judge(b"a", &last, u64::MAX, &mut [DIRT; 1024]),
@@ -243,11 +243,11 @@ fn refusal_8_comes_before_9_and_9_before_10() {
 
 #[test]
 fn the_rule_texts_row_comes_first() {
-    let long = [b'A'; 256];
+    let long = [b'_'; 256];
     let rules: [(&[u8], Answer); 6] = [
         (b"", refused(1, 0)),
         (&long, refused(2, 0)),
-        (b"aA", refused(3, 1)),
+        (b"a_", refused(3, 1)),
         (b"a|", refused(4, 2)),
         (&[b'a'; 33], refused(5, 0)),
         (b"!!!!!!!!a", refused(6, 0)),

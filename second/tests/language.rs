@@ -91,8 +91,8 @@ fn every_span_is_as_the_definition_says() {
     };
     let mut seen = [0, 0];
     for _ in 0..3_000 {
-        let rule = read(&sentence(&mut random, b"ab", &bounds)).unwrap();
-        let word = word(&mut random, b"ab", 9);
+        let rule = read(&sentence(&mut random, b"aA", &bounds)).unwrap();
+        let word = word(&mut random, b"aA", 9);
         let literal = literal_spans(&rule, &word);
         let spans = spans_of_nodes(&rule, &word);
         assert_eq!(spans.len(), rule.m());
@@ -118,8 +118,8 @@ fn every_span_is_as_the_derivatives_say() {
     };
     let mut seen = [0, 0];
     for _ in 0..4_000 {
-        let rule = read(&sentence(&mut random, b"ab", &bounds)).unwrap();
-        let word = word(&mut random, b"abc", 5);
+        let rule = read(&sentence(&mut random, b"aB", &bounds)).unwrap();
+        let word = word(&mut random, b"aBb", 5);
         let spans = spans_of_nodes(&rule, &word);
         for (node, spans) in spans.iter().enumerate() {
             let expression = expression(&rule, node);

@@ -105,7 +105,7 @@ fn nodes_carry_their_sides_and_letters() {
             offset: 0,
             kind: Kind::Complement(0),
         },
-        letter(2, b'z'),
+        letter(2, b'Z'),
         Node {
             offset: 3,
             kind: Kind::Star(2),
@@ -115,14 +115,14 @@ fn nodes_carry_their_sides_and_letters() {
             kind: Kind::Concatenation(1, 3),
         },
     ];
-    assert_eq!(read(b"!xz*"), Ok(Rule { nodes }));
+    assert_eq!(read(b"!xZ*"), Ok(Rule { nodes }));
 }
 
 #[test]
 fn every_byte_alone() {
     for byte in 0..=255u8 {
         let expected = match byte {
-            b'a'..=b'z' | b'0' | b'1' => (0, 0),
+            b'A'..=b'Z' | b'a'..=b'z' | b'0' | b'1' => (0, 0),
             b'|' | b'&' | b'*' | b')' => (4, 0),
             b'!' | b'(' => (4, 1),
             _ => (3, 0),
@@ -144,15 +144,16 @@ fn over_255_bytes_is_2_before_all_else() {
     assert_eq!(records(&nested(127)), "a127");
     assert_eq!(verdict(format!("{}*", nested(127)).as_bytes()), (2, 0));
     assert_eq!(verdict(nested(128).as_bytes()), (2, 0));
-    assert_eq!(verdict(&[b'A'; 256]), (2, 0));
+    assert_eq!(verdict(&[b'_'; 256]), (2, 0));
     assert_eq!(verdict(&[b')'; 256]), (2, 0));
     assert_eq!(verdict(&[b'a'; 256]), (2, 0));
 }
 
 #[test]
 fn a_foreign_byte_is_3_at_the_first_one() {
-    assert_eq!(verdict(b"A"), (3, 0));
-    assert_eq!(verdict(b"aBcD"), (3, 1));
+    assert_eq!(verdict(b"_"), (3, 0));
+    assert_eq!(verdict(b"a_c@"), (3, 1));
+    assert_eq!(verdict(b"aB`D["), (3, 2));
     assert_eq!(verdict(b"a b"), (3, 1));
     assert_eq!(verdict(b"a\tb"), (3, 1));
     assert_eq!(verdict(b"ab\0"), (3, 2));
@@ -162,8 +163,10 @@ fn a_foreign_byte_is_3_at_the_first_one() {
 
 #[test]
 fn a_foreign_byte_is_3_before_a_bad_form() {
-    assert_eq!(verdict(b")A"), (3, 1));
-    assert_eq!(verdict(b"()()A"), (3, 4));
+    assert_eq!(verdict(b")_"), (3, 1));
+    assert_eq!(verdict(b"()()`"), (3, 4));
+    assert_eq!(verdict(b")A"), (4, 0));
+    assert_eq!(verdict(b"()()A"), (4, 1));
 }
 
 #[test]
@@ -312,7 +315,7 @@ fn a_written_tree_reads_back() {
     let mut random = Random::new(1);
     for round in 0..20_000 {
         let nodes = 1 + random.below(64);
-        let kinds = grow_tree(&mut random, b"abz", nodes, 7);
+        let kinds = grow_tree(&mut random, b"azAZ", nodes, 7);
         assert_eq!(kinds.len(), nodes);
         let everywhere = round % 2 == 0;
         let mut writer = Writer {
@@ -340,7 +343,7 @@ fn a_random_text_reads_back_to_its_tree() {
     let mut random = Random::new(14);
     for _ in 0..5_000 {
         let nodes = 1 + random.below(30);
-        let kinds = grow_tree(&mut random, b"abz", nodes, 7);
+        let kinds = grow_tree(&mut random, b"azAZ", nodes, 7);
         let text = write_tree(&mut random, &kinds);
         let rule = read(&text).unwrap();
         let read_kinds: Vec<Kind> = rule.nodes.iter().map(|node| node.kind).collect();

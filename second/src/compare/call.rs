@@ -2,6 +2,7 @@
 
 use std::fmt;
 
+use super::letters::Letters;
 use super::trouble::Trouble;
 
 /// How many numbers the nodes' buffer must have, however few of them a rule takes.
@@ -60,6 +61,8 @@ pub enum Kind {
     Unanswered,
     /// This number should come.
     Number(u32),
+    /// Besides its number it shows this.
+    Shown(Letters),
     /// This happens to the program.
     Trouble(Trouble),
 }
@@ -77,6 +80,7 @@ impl fmt::Display for Kind {
             Kind::Unanswered => formatter.pad("a buffer too short to answer"),
             Kind::Number(0) => formatter.pad("accepted"),
             Kind::Number(number) => formatter.pad(&format!("refusal {number}")),
+            Kind::Shown(letters) => letters.fmt(formatter),
             Kind::Trouble(trouble) => trouble.fmt(formatter),
         }
     }
@@ -114,7 +118,8 @@ impl Callee {
         };
         let unanswered = (self != Callee::Program).then_some(Kind::Unanswered);
         let numbers = numbers.into_iter().map(Kind::Number);
-        numbers.chain(unanswered).collect()
+        let shown = Letters::of(self).iter().copied().map(Kind::Shown);
+        numbers.chain(unanswered).chain(shown).collect()
     }
 }
 

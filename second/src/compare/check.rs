@@ -3,6 +3,7 @@
 
 use super::call::{Call, Callee, Kind, Library, UNANSWERED};
 use super::lent::{Difference, Dirt, Lent, Side};
+use super::letters::{self, Letters};
 use super::reference;
 use super::request::{Asked, Request};
 
@@ -10,6 +11,7 @@ use super::request::{Asked, Request};
 pub struct Checked {
     pub callee: Callee,
     pub kind: Kind,
+    pub shown: Vec<Letters>,
     pub difference: Option<Difference>,
 }
 
@@ -18,6 +20,7 @@ pub fn check(library: &Library, case: &str, request: &Request) -> Checked {
     let mut buffers = Buffers::new(request);
     let returned = library(case, buffers.call(request, Side::Library));
     let number = reference::run(buffers.call(request, Side::Second));
+    let shown = number.map(|number| letters::shown(&request.asked, number, buffers.place()));
     // The answer is looked at first, because it says the most.
     let difference = buffers.answer.difference();
     let expected = reference::returned(number);
@@ -25,6 +28,7 @@ pub fn check(library: &Library, case: &str, request: &Request) -> Checked {
     Checked {
         callee: request.asked.callee(),
         kind: Kind::of(number),
+        shown: shown.unwrap_or_default(),
         difference: difference.or_else(|| buffers.difference()),
     }
 }
@@ -136,6 +140,11 @@ impl Buffers {
                 answer,
             },
         }
+    }
+
+    /// The place that should come in an answer.
+    fn place(&mut self) -> usize {
+        self.answer.side(Side::Second)[1] as usize
     }
 
     /// The first difference outside the answer.

@@ -1,10 +1,12 @@
-//! The edges as requests to the library: the streams of `second edges`, and jobs.
+//! The edges as requests to the library: the streams of `second edges`, jobs, and every byte where
+//! an event can stand.
 
 use super::call::{Callee, NODES};
 use super::job_edges;
 use super::lent::Dirt;
 use super::request::{Asked, Request};
-use crate::{edges, job};
+use crate::limits::LETTERS;
+use crate::{edges, job, letter_edges, table};
 
 /// The streams of cases that `second edges` prints.
 const STREAMS: [&str; 5] = ["rules", "days", "judge", "judge-large", "known"];
@@ -14,6 +16,9 @@ const NOISE: u64 = 1;
 
 /// How many elements a buffer has beyond those it must have.
 const BEYOND: usize = 5;
+
+/// How many elements a buffer has for the letters or the seconds of a few lines.
+const LINES: usize = 3;
 
 /// All the requests, one group after another.
 pub fn requests() -> Vec<Request> {
@@ -26,6 +31,8 @@ pub fn requests() -> Vec<Request> {
     let jobs = job_edges::jobs().into_iter();
     let jobs = jobs.chain(job_edges::readers_jobs()).flat_map(with_outs);
     requests.extend(jobs.flat_map(in_all_dirt));
+    let calls = (0..=255).flat_map(with_byte).enumerate();
+    requests.extend(calls.map(|(index, asked)| in_all_dirt(asked)[index % 2].clone()));
     requests.extend(too_short_to_answer());
     requests
 }
@@ -57,6 +64,47 @@ pub fn text_length(bytes: &[u8]) -> usize {
     job::judge_job(bytes).map_or(0, |report| report.lines().len())
 }
 
+/// A byte at every place where an event can stand, in every call that reads it there; the byte
+/// alone is among the streams for the two readers.
+fn with_byte(byte: u8) -> Vec<Asked> {
+    let mut calls = vec![judgement(&[byte], LETTERS)];
+    for rule in ["a", "!a", "!A", "!0"] {
+        let words = [vec![byte]].into_iter().chain(letter_edges::words(byte));
+        calls.extend(words.map(|word| judgement(rule.as_bytes(), &word)));
+    }
+    for text in letter_edges::rules(byte) {
+        calls.push(judgement(&text, b"aA"));
+        calls.push(with_room(job_edges::job(&text, b"E\t0\ta\nE\t0\tA\n")));
+        let nodes = NODES;
+        calls.push(Asked::Rule { text, nodes });
+    }
+    for file in letter_edges::days(byte) {
+        calls.push(with_room(job_edges::job(b"!a", &file)));
+        calls.push(Asked::Day {
+            file,
+            letters: LINES,
+            seconds: LINES,
+        });
+    }
+    calls
+}
+
+/// A judge call with the highest limit, and with a table for one special node.
+fn judgement(rule: &[u8], word: &[u8]) -> Asked {
+    Asked::Judge {
+        rule: rule.to_vec(),
+        word: word.to_vec(),
+        limit: u64::MAX,
+        table: table::need(1, word.len()),
+    }
+}
+
+/// A job with a buffer that is longer than its text.
+fn with_room(job: Vec<u8>) -> Asked {
+    let out = text_length(&job) + BEYOND;
+    Asked::Job { job, out }
+}
+
 /// Calls whose answer or nodes are too short, good ones and ones that would be refused.
 fn too_short_to_answer() -> Vec<Request> {
     let mut requests = Vec::new();
@@ -85,7 +133,7 @@ fn too_short_to_answer() -> Vec<Request> {
 /// For each call one that is accepted and one that is refused.
 fn good_and_bad_calls() -> Vec<Asked> {
     let mut calls = Vec::new();
-    for text in [&b"!a"[..], b"A"] {
+    for text in [&b"!a"[..], b"_"] {
         calls.push(Asked::Rule {
             text: text.to_vec(),
             nodes: NODES,
@@ -108,11 +156,11 @@ fn good_and_bad_calls() -> Vec<Asked> {
         limit: 6,
         table: 16,
     });
-    for file in [&b"E\t0\ta\n"[..], b"E\t0\tA\n"] {
+    for file in [&b"E\t0\ta\n"[..], b"E\t0\t_\n"] {
         calls.push(Asked::Day {
             file: file.to_vec(),
-            letters: 3,
-            seconds: 3,
+            letters: LINES,
+            seconds: LINES,
         });
     }
     calls

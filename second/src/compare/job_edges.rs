@@ -1,7 +1,8 @@
 //! The whole jobs that walk document 01's edges; its own whole case is the first.
 
 use crate::judge_edges::{repeated, KNOWN_DAYS};
-use crate::limits::{LAST_SECOND, MAX_DAY_BYTES, MAX_DAY_LINES, MAX_JOB_BYTES};
+use crate::letter_edges::{self, ENDS};
+use crate::limits::{LAST_SECOND, LETTERS, MAX_DAY_BYTES, MAX_DAY_LINES, MAX_JOB_BYTES};
 use crate::lines::{good_line, joined};
 use crate::rule_edges::{example_1, run};
 use crate::{day_edges, rule_edges, stream::Case};
@@ -54,7 +55,7 @@ const BAD_RULES: [&[u8]; 14] = [
     b"R\ta b\nE\t0\ta\n",
     b"R\ta|\nE\t0\ta\n",
     b"R\t()\nE\t0\ta\n",
-    b"R\t)A\n",
+    b"R\t)_\n",
 ];
 
 /// Jobs whose day has a bad line.
@@ -70,7 +71,7 @@ const BAD_DAYS: [&[u8]; 18] = [
     b"R\ta\nE\t0\ta\n\0",
     b"R\ta\nR\ta\n",
     b"R\ta\nE\t00\ta\n",
-    b"R\ta\nE\t0\tA\n",
+    b"R\ta\nE\t0\t_\n",
     b"R\ta\nE 0\ta\n",
     b"R\ta\nE\t0 a\n",
     b"R\ta\nE\t86400\ta\n",
@@ -83,9 +84,23 @@ const BAD_DAYS: [&[u8]; 18] = [
 const SEVERAL_FAULTS: [&[u8]; 5] = [
     b"r\t)\nE\n",
     b"R\t)\nE\n",
-    b"R\t\nE\t0\tA\n",
+    b"R\t\nE\t0\t_\n",
     b"R\ta\nE\n",
-    b"R\ta\nE\t86400\tA\n",
+    b"R\ta\nE\t86400\t_\n",
+];
+
+/// Jobs in which tags stand as letters, letters as tags, or a letter in both cases.
+const CAPITALS: [&[u8]; 10] = [
+    b"R\tA\nE\t0\tA\n",
+    b"R\tA\nE\t0\ta\n",
+    b"R\ta\nE\t0\tA\n",
+    b"R\t!a\nE\t0\tA\nE\t0\ta\n",
+    b"R\tR\nE\t0\tR\n",
+    b"R\tE\nE\t0\tE\n",
+    b"R\tH(S|X)*\nE\t0\tH\nE\t1\tS\nE\t1\tX\n",
+    b"R\tE\t0\tE\n",
+    b"E\tE\nE\t0\tE\n",
+    b"R\tE\nR\tE\nE\t0\tE\n",
 ];
 
 /// The jobs, one group after another.
@@ -100,6 +115,7 @@ pub fn jobs() -> Vec<Vec<u8>> {
     jobs.extend(about_words());
     jobs.extend(about_days());
     jobs.extend(about_bytes());
+    jobs.extend(about_letters());
     jobs
 }
 
@@ -150,7 +166,7 @@ fn about_rules() -> Vec<Vec<u8>> {
         [nested(127), run("*", 1)].concat(),
         run("a", 255),
         run("a", 256),
-        run("A", 256),
+        run("_", 256),
     ];
     let words: [&[u8]; 2] = [b"", b"aba"];
     let both = |rule: Vec<u8>| words.map(|word| of_word(&rule, word));
@@ -182,7 +198,7 @@ fn about_days() -> Vec<Vec<u8>> {
         [&longest[..], b"\n"].concat(),
         longest[..longest.len() - 1].to_vec(),
         [&short(MAX_DAY_LINES), &b"E"[..]].concat(),
-        [&short(MAX_DAY_LINES - 1), &b"E\t0\tB\nE"[..]].concat(),
+        [&short(MAX_DAY_LINES - 1), &b"E\t0\t_\nE"[..]].concat(),
         short(MAX_DAY_LINES + 1),
         short(MAX_DAY_BYTES / 6),
         run("\n", MAX_DAY_BYTES),
@@ -212,6 +228,17 @@ fn about_bytes() -> Vec<Vec<u8>> {
         [longest.clone(), long_lines(99)].concat(),
         with_star,
         [b"R\ta*\n", &long_lines(280)[..], b"x"].concat(),
-        [b"R\tA\n", &long_lines(280)[..], b"x"].concat(),
+        [b"R\t_\n", &long_lines(280)[..], b"x"].concat(),
     ]
+}
+
+/// Capitals, all letters in one day, and what stands at the ends of the two runs of letters.
+fn about_letters() -> Vec<Vec<u8>> {
+    let mut jobs: Vec<Vec<u8>> = CAPITALS.map(<[u8]>::to_vec).into();
+    jobs.extend([&b"!0"[..], b"!Z", b"(a|A)*"].map(|rule| of_word(rule, LETTERS)));
+    for byte in ENDS {
+        jobs.push(of_word(&[byte], b"aAzZ"));
+        jobs.extend(letter_edges::days(byte).map(|day| job(b"!a", &day)));
+    }
+    jobs
 }

@@ -8,6 +8,7 @@ pub mod commands;
 pub mod edge_requests;
 pub mod job_edges;
 pub mod lent;
+pub mod letters;
 pub mod program;
 pub mod progress;
 #[cfg(feature = "proved")]

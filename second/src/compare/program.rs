@@ -11,6 +11,7 @@ use std::thread;
 use super::call::{Callee, Kind};
 use super::check::Checked;
 use super::lent::{first_different, shown_around, Difference};
+use super::letters;
 use super::request::shown_bytes;
 use super::running::{Running, PATIENCE, REST};
 use crate::job;
@@ -76,9 +77,9 @@ fn random_pieces(random: &mut Random, mut length: usize) -> Vec<usize> {
 
 /// Runs the program on an input, and compares what it prints.
 pub fn check(program: &OsStr, input: &Input) -> Checked {
-    let (number, expected) = match job::judge_job(input.job()) {
-        Ok(report) => (0, report.lines()),
-        Err((number, _)) => (number, job::output(input.job())),
+    let (number, place, expected) = match job::judge_job(input.job()) {
+        Ok(report) => (0, 0, report.lines()),
+        Err((number, place)) => (number, place, job::output(input.job())),
     };
     let difference = match run(program, input) {
         Ok(ran) => ran.difference(expected.as_bytes()),
@@ -87,6 +88,7 @@ pub fn check(program: &OsStr, input: &Input) -> Checked {
     Checked {
         callee: Callee::Program,
         kind: Kind::Number(number),
+        shown: letters::shown_by_job(input.job(), number, place),
         difference,
     }
 }

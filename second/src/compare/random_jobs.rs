@@ -73,7 +73,7 @@ fn good_parts(random: &mut Random) -> Parts {
 
 /// A short sentence in as many parentheses as a rule's bytes allow, or in more of them.
 pub fn deeply_nested(random: &mut Random, more: usize) -> Vec<u8> {
-    let inner = random.pick(&[&b"a"[..], b"z*", b"!a", b"a|b", b"(ab)c&c"]);
+    let inner = random.pick(&[&b"a"[..], b"z*", b"!a", b"a|A", b"(aB)c&c", b"Z"]);
     let depth = (MAX_RULE_BYTES - inner.len()) / 2 + more;
     [&vec![b'('; depth], inner, &vec![b')'; depth]].concat()
 }
@@ -94,7 +94,7 @@ fn damage(random: &mut Random, parts: &mut Parts) {
         1 => parts.end = random.pick(&WRONG_ENDS).to_vec(),
         2 => parts.rule = bad_rule(random),
         3 => {
-            let byte = random.pick(b"\0\x80\xff\n\r\tA ");
+            let byte = random.pick(b"\0\x80\xff\n\r\t @[\\]^_`{");
             change_byte(random, &mut parts.rule, byte, usize::MAX);
         }
         _ => random_days::damage(random, &mut parts.lines),
@@ -132,7 +132,7 @@ fn lengthen(random: &mut Random, job: &mut Vec<u8>) {
         1 => MAX_JOB_BYTES + random.below(MOST_UNREAD),
         _ => job.len() + random.below(MAX_JOB_BYTES),
     };
-    let line = good_line(random.pick(&[0, 86_399]), b'a').concat();
+    let line = good_line(random.pick(&[0, 86_399]), random.pick(b"aA")).concat();
     let more = length.saturating_sub(job.len());
     job.extend(line.iter().cycle().take(more));
 }

@@ -115,7 +115,7 @@ fn near_edge(random: &mut Random, edges: &[Vec<u8>]) -> Vec<u8> {
         let byte = if random.one_in(2) {
             any_byte(random)
         } else {
-            random.pick(b"a\n\t01|!*()")
+            random.pick(b"aAzZ[_`\n\t01|!*()")
         };
         change_byte(random, &mut bytes, byte, usize::MAX);
     }
@@ -135,7 +135,7 @@ fn judgement(random: &mut Random) -> Asked {
 fn by_bad_rule(random: &mut Random) -> Asked {
     Asked::Judge {
         rule: random.pick(&BAD_RULES).to_vec(),
-        word: random.pick(&[&b""[..], b"ab", b"aB"]).to_vec(),
+        word: random.pick(&[&b""[..], b"ab", b"aB", b"a_"]).to_vec(),
         limit: random.pick(&[0, u64::MAX]),
         table: random.pick(&[0, table::need(0, 2), table::need(8, 2)]),
     }

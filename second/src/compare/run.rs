@@ -44,7 +44,7 @@ impl<'a> Run<'a> {
     pub fn add(&mut self, label: &Label, checks: &[(Checked, &dyn Display)]) -> io::Result<()> {
         let mut differs = false;
         for (checked, asked) in checks {
-            self.tally.add(checked.callee, checked.kind);
+            self.tally.add(checked.callee, checked.kind, &checked.shown);
             if let Some(difference) = &checked.difference {
                 differs = true;
                 writeln!(self.output, "DIFFERENCE in {}", label.name)?;

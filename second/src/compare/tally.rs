@@ -4,18 +4,24 @@ use std::collections::BTreeMap;
 use std::fmt;
 
 use super::call::{Callee, Kind};
+use super::letters::Letters;
 
-/// The cases counted by callee and kind.
+/// The cases counted by callee, and by callee and kind.
 #[derive(Default)]
 pub struct Tally {
+    all: BTreeMap<Callee, u64>,
     cases: BTreeMap<Callee, BTreeMap<Kind, u64>>,
 }
 
 impl Tally {
-    /// Counts a case.
-    pub fn add(&mut self, callee: Callee, kind: Kind) {
+    /// Counts a case of a kind, and all that it shows besides.
+    pub fn add(&mut self, callee: Callee, kind: Kind, shown: &[Letters]) {
+        *self.all.entry(callee).or_default() += 1;
         let kinds = self.cases.entry(callee).or_default();
-        *kinds.entry(kind).or_default() += 1;
+        let shown = shown.iter().copied().map(Kind::Shown);
+        for kind in shown.chain([kind]) {
+            *kinds.entry(kind).or_default() += 1;
+        }
     }
 
     /// The kinds of each of the callees that never came.
@@ -36,8 +42,7 @@ impl Tally {
 impl fmt::Display for Tally {
     fn fmt(&self, formatter: &mut fmt::Formatter) -> fmt::Result {
         for (callee, kinds) in &self.cases {
-            let all: u64 = kinds.values().sum();
-            writeln!(formatter, "{callee}: {all} cases")?;
+            writeln!(formatter, "{callee}: {} cases", self.all[callee])?;
             for (kind, count) in kinds {
                 writeln!(formatter, "  {kind:28} {count:8}")?;
             }

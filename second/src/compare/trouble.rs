@@ -221,6 +221,7 @@ pub fn check(program: &OsStr, case: &Case) -> Checked {
     Checked {
         callee: Callee::Troubled,
         kind: Kind::Trouble(case.trouble),
+        shown: Vec::new(),
         difference,
     }
 }

@@ -33,6 +33,11 @@ fn note(bounds: &mut BTreeSet<String>, met: bool, name: impl Into<String>) {
     }
 }
 
+/// Whether a capital stands among the bytes.
+fn has_capital(bytes: &[u8]) -> bool {
+    bytes.iter().any(u8::is_ascii_uppercase)
+}
+
 /// Notes the bounds of a rule text.
 fn note_rule(bounds: &mut BTreeSet<String>, text: &[u8], nodes: usize) {
     let length = text.len();
@@ -45,6 +50,7 @@ fn note_rule(bounds: &mut BTreeSet<String>, text: &[u8], nodes: usize) {
     note(bounds, nodes > NODES, "nodes long");
     match rule::read(text) {
         Ok(rule) => {
+            note(bounds, has_capital(text), "rule with capital");
             note(bounds, rule.m() >= 63, format!("m {}", rule.m()));
             note(bounds, rule.k() == 7, "k 7");
             note(bounds, length == 255, "sentence of 255");
@@ -81,6 +87,12 @@ fn note_judge(bounds: &mut BTreeSet<String>, rule: &[u8], word: &[u8], limit: u6
         return;
     };
     let need = (reading.k() + 1) * (n + 1) * 4;
+    note(bounds, has_capital(rule) && has_capital(word), "capitals");
+    note(
+        bounds,
+        !has_capital(rule) && has_capital(word),
+        "word with capital",
+    );
     note(bounds, table + 1 == need, "table short");
     note(bounds, table == need, "table exact");
     note(bounds, table == need + 5, "table long");
@@ -95,6 +107,8 @@ fn note_judge(bounds: &mut BTreeSet<String>, rule: &[u8], word: &[u8], limit: u6
 /// Notes the bounds of a job.
 fn note_job(bounds: &mut BTreeSet<String>, bytes: &[u8], out: usize) {
     note(bounds, bytes.len() > 2_809, "job beyond");
+    note(bounds, bytes.starts_with(b"R\tA"), "job with capital");
+    note(bounds, bytes.ends_with(b"\tZ\n"), "day with capital");
     note(bounds, bytes.contains(&0), "job with NUL");
     note(bounds, bytes.contains(&255), "job with high byte");
     note(bounds, bytes.contains(&b'\r'), "job with CR");
@@ -144,7 +158,8 @@ fn every_bound_is_drawn() {
         table short;table exact;table long;largest;limit 0;limit below;limit exact;limit above;\
         limit highest;job beyond;job with NUL;job with high byte;job with CR;out none;out short;\
         out exact;out long;job 1;job 2;job 3;job 4;job 5;job 6;job 11;job 12;job 13;job 14;job 16;\
-        ones;noise;answer short;answer long";
+        ones;noise;answer short;answer long;rule with capital;capitals;word with capital;\
+        job with capital;day with capital";
     for bound in expected.split(';') {
         assert!(bounds.contains(bound), "{bound} was not drawn");
     }

@@ -26,6 +26,12 @@ fn the_edges_that_document_01_names_are_there() {
     check_among(&jobs, b"R\t\n", "X\t1\t0\n");
     check_among(&jobs, b"R\ta\nE\t86400\ta\n", "X\t13\t1\n");
     check_among(&jobs, b"R\ta\nE\t100000\ta\n", "X\t12\t1\n");
+    check_among(&jobs, b"R\tA\nE\t0\tA\n", "H\t1\t1\t0\t1\t3\nS\t0\t1\n");
+    check_among(&jobs, b"R\tA\nE\t0\ta\n", "H\t1\t1\t0\t0\t2\n");
+    check_among(&jobs, b"R\tE\nE\t0\tE\n", "H\t1\t1\t0\t1\t3\nS\t0\t1\n");
+    check_among(&jobs, b"R\tE\t0\tE\n", "X\t3\t1\n");
+    check_among(&jobs, b"E\tE\nE\t0\tE\n", "X\t16\t0\n");
+    check_among(&jobs, b"R\tE\nR\tE\nE\t0\tE\n", "X\t12\t1\n");
     let day = "E\t86399\ta\n".repeat(255);
     let stars = format!("R\ta{}\n{day}", "*".repeat(63));
     check_among(&jobs, stars.as_bytes(), "H\t255\t64\t0\t32896\t");

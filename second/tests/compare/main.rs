@@ -6,6 +6,7 @@ mod commands;
 mod draws;
 mod jobs;
 mod lent;
+mod letters;
 mod program;
 mod reference;
 mod scripts;

@@ -44,17 +44,17 @@ fn run_job(job: &[u8], out: usize) -> (Option<u32>, Vec<u64>, Vec<u8>) {
 
 #[test]
 fn a_rule_has_two_numbers_for_each_node() {
-    let (number, answer, nodes) = read_rule(b"!(a0)*|1&z", 8, 130);
+    let (number, answer, nodes) = read_rule(b"!(a0)*|1&Z", 8, 130);
     assert_eq!(number, Some(0));
     assert_eq!(answer, [0, 0, 0, 0, 9, 2, KEPT, KEPT]);
     let records = [
-        (2, b'a'.into()),
+        (2, 97),
         (3, 0),
         (3, 4),
         (5, 6),
         (0, 5),
         (7, 1),
-        (9, b'z'.into()),
+        (9, 90),
         (8, 3),
         (6, 2),
     ];
@@ -101,13 +101,13 @@ fn what_is_returned_is_the_number_or_none_that_there_is() {
 fn a_day_fills_both_buffers_up_to_its_end() {
     let (mut letters, mut seconds, mut answer) = ([b'?'; 3], [7; 4], [KEPT; 6]);
     let number = run(Call::ReadDay {
-        file: b"E\t5\tx\nE\t86399\ty\n",
+        file: b"E\t5\tx\nE\t86399\tY\n",
         letters: &mut letters,
         seconds: &mut seconds,
         answer: &mut answer,
     });
     assert_eq!(number, Some(0));
-    assert_eq!((&letters, seconds), (b"xy?", [5, 86_399, 7, 7]));
+    assert_eq!((&letters, seconds), (b"xY?", [5, 86_399, 7, 7]));
     assert_eq!(answer, [0, 0, 0, 0, 2, KEPT]);
 }
 
@@ -120,7 +120,7 @@ fn a_judgement_fills_the_needed_numbers() {
     let (number, answer, table) = judge(b"!a", b"a", 6, 18);
     assert_eq!((number, answer), (Some(10), vec![10, 0, 0, 6, KEPT]));
     assert_eq!(table, [&[0; 16][..], &[KEPT; 2]].concat());
-    let (number, answer, table) = judge(b"!a", b"aB", 7, 18);
+    let (number, answer, table) = judge(b"!a", b"a_", 7, 18);
     assert_eq!((number, answer), (Some(8), vec![8, 1, 0, 0, KEPT]));
     assert_eq!(table, [KEPT; 18]);
 }

@@ -3,7 +3,7 @@
 use crate::{answered, cases, check_answer, numbers, stream, Case};
 
 /// The seeds that the tests below draw from.
-const SEEDS: [usize; 8] = [1, 2, 3, 4, 5, 6, 7, 8];
+const SEEDS: [usize; 13] = [1, 2, 3, 4, 5, 6, 7, 8, 9, 10, 11, 12, 13];
 
 /// A stream as long as the limit lets it be.
 fn longest(seed: usize) -> Vec<u8> {
@@ -146,7 +146,7 @@ fn days_come_to_their_limits() {
 #[test]
 fn days_are_damaged_in_every_way() {
     let all = many();
-    let damages: [&[u8]; 18] = [
+    let damages: [&[u8]; 22] = [
         b"\nF\t",
         b"\ne\t",
         b"\n E\t",
@@ -160,7 +160,11 @@ fn days_are_damaged_in_every_way() {
         b"\t+1\t",
         b"\t-1\t",
         b"\tx\t",
-        b"\tA\n",
+        b"\t@\n",
+        b"\t[\n",
+        b"\t_\n",
+        b"\t`\n",
+        b"\t{\n",
         b"\tab\n",
         b"\t\n",
         b"\r\n",
@@ -171,6 +175,28 @@ fn days_are_damaged_in_every_way() {
             line.starts_with("day\t12\t") && has(&case.bytes, damage)
         };
         assert!(all.iter().any(refused), "{}", damage.escape_ascii());
+    }
+}
+
+#[test]
+fn every_letter_is_accepted_and_every_byte_between_the_cases_refused() {
+    let all = many();
+    let letters = (b'a'..=b'z').chain(b'A'..=b'Z');
+    for letter in letters {
+        let rule = |(case, line): &(Case, String)| {
+            line.starts_with("rule\t0\t") && case.bytes.contains(&letter)
+        };
+        let day = |(case, line): &(Case, String)| {
+            line.starts_with("day\t0\t") && has(&case.bytes, &[b'\t', letter, b'\n'])
+        };
+        assert!(all.iter().any(rule) && all.iter().any(day), "{letter}");
+    }
+    for byte in (91..=96).chain([64, 123]) {
+        let refused = |(case, line): &(Case, String)| {
+            let place = line.split('\t').nth(2).unwrap().parse::<usize>().unwrap();
+            line.starts_with("rule\t3\t") && case.bytes[place] == byte
+        };
+        assert!(all.iter().any(refused), "{byte}");
     }
 }
 

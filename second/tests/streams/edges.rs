@@ -173,8 +173,8 @@ fn an_empty_text_is_1_and_over_255_bytes_is_2() {
         text(&[("a", 300)]),
         text(&[("(", 256)]),
         text(&[(")", 256)]),
-        text(&[("A", 256)]),
-        text(&[("a", 255), ("A", 1)]),
+        text(&[("_", 256)]),
+        text(&[("a", 255), ("_", 1)]),
         text(&[("(", 127), ("a", 1), (")", 127), ("*", 1)]),
         text(&[("(", 128), ("a", 1), (")", 128)]),
     ];
@@ -184,24 +184,24 @@ fn an_empty_text_is_1_and_over_255_bytes_is_2() {
 #[test]
 fn a_foreign_byte_is_3_at_the_first_one() {
     let texts: [(&[u8], usize); 10] = [
-        (b"A", 0),
-        (b"aBcD", 1),
+        (b"_", 0),
+        (b"a_c@", 1),
         (b"ab\n", 2),
         (b"ab\0", 2),
         (b"\xc3\xa4", 0),
-        (b")A", 1),
-        (b"()()A", 4),
+        (b")_", 1),
+        (b"()()`", 4),
         (b"a||b/c", 4),
-        (b")a)B)C", 3),
-        (b"!!!!!!!!A", 8),
+        (b")a)[)@", 3),
+        (b"!!!!!!!!_", 8),
     ];
     check_refused(3, &texts.map(|(text, place)| (text.to_vec(), place)));
     check_refused(
         3,
         &[
             (text(&[("a", 254), ("2", 1)]), 254),
-            (text(&[("a|", 127), ("A", 1)]), 254),
-            (text(&[("a", 40), ("A)", 1)]), 40),
+            (text(&[("a|", 127), ("_", 1)]), 254),
+            (text(&[("a", 40), ("_)", 1)]), 40),
         ],
     );
 }
@@ -231,6 +231,8 @@ fn no_sentence_is_4_at_the_longest_beginning() {
         ("!(!(", 4),
         ("(a|b))*", 5),
         ("a|(b&(c*)", 9),
+        (")A", 0),
+        ("A|B)Z", 3),
     ];
     check_refused(4, &texts.map(|(text, place)| (text.into(), place)));
     check_refused(
@@ -285,6 +287,7 @@ fn over_64_nodes_is_5_and_before_6() {
         (text(&[("(", 127), ("a", 1), (")", 127)]), 1, 0),
         (text(&[("(", 79), ("(a)", 32), (")", 79), ("*", 1)]), 64, 0),
         (b"abcdefghijklmnopqrstuvwxyz".to_vec(), 51, 0),
+        (b"ABCDEFGHIJKLMNOPQRSTUVWXYZ".to_vec(), 51, 0),
     ]);
     let texts = [
         text(&[("a", 33)]),
@@ -334,7 +337,7 @@ fn every_byte_stands_alone_as_a_rule() {
     let edges = edges();
     for byte in 0..=255u8 {
         let expected = match byte {
-            b'a'..=b'z' | b'0' | b'1' => {
+            b'A'..=b'Z' | b'a'..=b'z' | b'0' | b'1' => {
                 format!("rule\t0\t0\t0\t0\t1\t0\t0:{}", char::from(byte))
             }
             b'|' | b'&' | b'*' | b')' => "rule\t4\t0\t0\t0\t0\t0\t-".into(),
@@ -345,10 +348,96 @@ fn every_byte_stands_alone_as_a_rule() {
     }
 }
 
+/// The bytes at the ends of the two runs of letters: letters, and others beside and between them.
+const ENDS: ([u8; 4], [u8; 8]) = ([65, 90, 97, 122], [64, 91, 92, 93, 94, 95, 96, 123]);
+
+#[test]
+fn the_ends_of_the_letters_stand_everywhere_in_a_rule() {
+    let places = [
+        ("?b", 0, "3 0 0:?;1:b;1:."),
+        ("a?b", 1, "5 0 0:a;1:?;1:.;2:b;2:."),
+        ("a?", 1, "3 0 0:a;1:?;1:."),
+        ("!?", 1, "2 1 1:?;0:!"),
+        ("?|a", 0, "3 0 0:?;2:a;1:|"),
+        ("a|?", 2, "3 0 0:a;2:?;1:|"),
+        ("?&a", 0, "3 1 0:?;2:a;1:&"),
+        ("a&?", 2, "3 1 0:a;2:?;1:&"),
+        ("(?)", 1, "1 0 1:?"),
+        ("?*", 0, "2 0 0:?;1:*"),
+    ];
+    for (text, place, reading) in places {
+        let with = |text: &str, byte: u8| text.replace('?', &char::from(byte).to_string());
+        for letter in ENDS.0 {
+            check_readings(&[(&with(text, letter), &with(reading, letter))]);
+        }
+        check_refused(3, &ENDS.1.map(|byte| (with(text, byte).into(), place)));
+    }
+}
+
+#[test]
+fn capitals_are_letters_of_their_own() {
+    check_readings(&[
+        ("A", "1 0 0:A"),
+        ("aA", "3 0 0:a;1:A;1:."),
+        ("!A|a&!(A)*", "8 3 1:A;0:!;3:a;7:A;9:*;5:!;4:&;2:|"),
+        ("(E|R)*", "4 0 1:E;3:R;2:|;5:*"),
+    ]);
+}
+
+/// A day with these bytes as its letters.
+fn day_of(letters: &[u8]) -> Vec<u8> {
+    let line = |&letter: &u8| [b"E\t5\t", &[letter][..], b"\n"].concat();
+    letters.iter().flat_map(line).collect()
+}
+
+#[test]
+fn the_ends_of_the_letters_stand_in_every_line() {
+    let edges = edges();
+    for (before, after) in [("", "b"), ("a", "b"), ("a", "")] {
+        let with = |byte: u8| [before.as_bytes(), &[byte], after.as_bytes()].concat();
+        for letter in ENDS.0 {
+            let day = day_of(&with(letter));
+            let (answer, buffers) = answer_with_enough(&edges, &day);
+            let n = with(letter).len();
+            let letters = letters_after(&with(letter), buffers.0);
+            let seconds = seconds_after(&vec![5; n], buffers.1);
+            assert_eq!(
+                answer,
+                format!("day\t0\t0\t0\t0\t{n}\t{letters}\t{seconds}")
+            );
+        }
+        for byte in ENDS.1 {
+            let day = day_of(&with(byte));
+            check_refused_days(&[(&day, 12, before.len() + 1)]);
+        }
+    }
+}
+
+#[test]
+fn tags_are_tags_by_their_place() {
+    let edges = edges();
+    let good: [(&[u8], &str); 2] = [
+        (b"E\t0\tE\n", "1\t69,129\t0,100001,100002"),
+        (
+            b"E\t0\tR\nE\t1\tS\nE\t1\tX\nE\t2\tH\nE\t2\tD\nE\t3\te\n",
+            "6\t82,83,88,72,68,101,134\t0,1,1,2,2,3,100006,100007",
+        ),
+    ];
+    for (day, rest) in good {
+        let (line, _) = answer_with_enough(&edges, day);
+        assert_eq!(line, format!("day\t0\t0\t0\t0\t{rest}"));
+    }
+    check_refused_days(&[
+        (b"E\tE\tE\n", 12, 1),
+        (b"A\t0\tE\n", 12, 1),
+        (b"E\t4\tEE\n", 12, 1),
+    ]);
+}
+
 #[test]
 fn short_good_days_are_read() {
     let edges = edges();
-    let good: [(&[u8], &str); 8] = [
+    let good: [(&[u8], &str); 9] = [
         (b"", "0\t128\t100000,100001"),
         (b"E\t0\ta\n", "1\t97,129\t0,100001,100002"),
         (b"E\t0\ta\nE\t0\ta\n", "2\t97,97,130\t0,0,100002,100003"),
@@ -356,6 +445,10 @@ fn short_good_days_are_read() {
         (
             b"E\t7\tz\nE\t7\ty\nE\t7\tz\n",
             "3\t122,121,122,131\t7,7,7,100003,100004",
+        ),
+        (
+            b"E\t0\ta\nE\t0\tA\nE\t0\tz\nE\t0\tZ\n",
+            "4\t97,65,122,90,132\t0,0,0,0,100004,100005",
         ),
         (b"E\t86399\tq\n", "1\t113,129\t86399,100001,100002"),
         (b"E\t65536\tq\n", "1\t113,129\t65536,100001,100002"),
@@ -388,7 +481,9 @@ fn a_damaged_line_is_12() {
         (b"E\t-1\tb\n", 12, 1),
         (b"E\tx\tb\n", 12, 1),
         (b"E\t1x\tb\n", 12, 1),
-        (b"E\t4\tA\n", 12, 1),
+        (b"E\t4\t@\n", 12, 1),
+        (b"E\t4\t[\n", 12, 1),
+        (b"E\t4\t_\n", 12, 1),
         (b"E\t4\tab\n", 12, 1),
         (b"E\t4\t\n", 12, 1),
         (b"E\t4\tb", 12, 1),
@@ -420,16 +515,18 @@ fn a_second_too_late_or_too_early_is_13() {
         (b"E\t86399\ta\nE\t86398\ta\n", 13, 2),
         (b"E\t1\ta\nE\t5\tb\nE\t4\tc\n", 13, 3),
         (b"E\t5\ta\nE\t1\tb\nE\t3\tc\n", 13, 2),
+        (b"E\t86400\tA\n", 13, 1),
+        (b"E\t5\ta\nE\t4\tA\n", 13, 2),
     ]);
 }
 
 #[test]
 fn within_a_line_12_wins_and_then_the_first_bad_line() {
     check_refused_days(&[
-        (b"E\t86400\tA\n", 12, 1),
+        (b"E\t86400\t_\n", 12, 1),
         (b"E\t99999\ta", 12, 1),
         (b"E\t86400\ta\r\n", 12, 1),
-        (b"E\t5\ta\nE\t4\tA\n", 12, 2),
+        (b"E\t5\ta\nE\t4\t_\n", 12, 2),
         (b"E\t5\ta\nE\t4\ta", 12, 2),
         (b"E\t5\ta\nE\t04\ta\n", 12, 2),
         (b"E\nE\t86400\ta\n", 12, 1),
@@ -437,7 +534,7 @@ fn within_a_line_12_wins_and_then_the_first_bad_line() {
         (b"E\t86400\ta\nE\n", 13, 1),
         (b"E\t5\ta\nE\t4\ta\nE\n", 13, 2),
         (b"E\t86400\ta\nE\t0\ta\n", 13, 1),
-        (b"E\t5\ta\nE\t4\tA\nE\t3\ta\n", 12, 2),
+        (b"E\t5\ta\nE\t4\t[\nE\t3\ta\n", 12, 2),
         (b"E\t5\ta\nE\t4\ta\nE\t86400\ta\nx", 13, 2),
     ]);
 }
@@ -448,7 +545,9 @@ fn every_byte_stands_as_letter_and_as_digit() {
     for byte in 0..=255u8 {
         let (line, _) = answer_with_enough(&edges, &[b"E\t5\t", &[byte][..], b"\n"].concat());
         let expected = match byte {
-            b'a'..=b'z' => format!("day\t0\t0\t0\t0\t1\t{byte},129\t5,100001,100002"),
+            b'A'..=b'Z' | b'a'..=b'z' => {
+                format!("day\t0\t0\t0\t0\t1\t{byte},129\t5,100001,100002")
+            }
             b'\n' => "day\t12\t1\t0\t0\t0\t128,129,130\t100000,100001,100002,100003".into(),
             _ => "day\t12\t1\t0\t0\t0\t128,129\t100000,100001,100002".into(),
         };
@@ -466,10 +565,10 @@ fn every_byte_stands_as_letter_and_as_digit() {
     }
 }
 
-/// The lines of the edges with 255 lines: 26 letters at each of the seconds 0 to 9.
+/// The lines of the edges with 255 lines: 52 letters at each of the seconds 0 to 4.
 fn full_day() -> Vec<String> {
-    let letters = ('a'..='z').cycle();
-    let seconds = (0..10).flat_map(|second| [second; 26]);
+    let letters = ('a'..='z').chain('A'..='Z').cycle();
+    let seconds = (0..5).flat_map(|second| [second; 52]);
     let lines = seconds.zip(letters);
     lines
         .map(|(second, letter)| format!("E\t{second}\t{letter}\n"))
@@ -491,14 +590,15 @@ fn a_256th_line_is_14_unless_a_line_before_is_bad() {
         (&and("\n"), 14, 256),
         (&b"E\t0\tb\n".repeat(425), 14, 256),
         (&with(255, "E\t9\ta", ""), 12, 255),
-        (&with(1, "E\t0\tA\n", "E\t9\ta\n"), 12, 1),
+        (&with(1, "E\t0\t_\n", "E\t9\ta\n"), 12, 1),
         (&with(128, "\n", "E"), 12, 128),
-        (&with(255, "E\t8\ta\n", "E"), 13, 255),
+        (&with(255, "E\t3\ta\n", "E"), 13, 255),
     ]);
     let (line, buffers) = answer_with_enough(&edges(), full.as_bytes());
-    let letters: Vec<u8> = (b'a'..=b'z').cycle().take(255).collect();
+    let letters = (b'a'..=b'z').chain(b'A'..=b'Z').cycle();
+    let letters: Vec<u8> = letters.take(255).collect();
     let letters = letters_after(&letters, buffers.0);
-    let seconds: Vec<usize> = (0..255).map(|index| index / 26).collect();
+    let seconds: Vec<usize> = (0..255).map(|index| index / 52).collect();
     let seconds = seconds_after(&seconds, buffers.1);
     assert_eq!(line, format!("day\t0\t0\t0\t0\t255\t{letters}\t{seconds}"));
 }

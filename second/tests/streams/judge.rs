@@ -106,7 +106,7 @@ impl Call {
             Some(self.refused(refusal.number() as usize, refusal.place))
         } else if self.n() > 255 {
             Some(self.refused(7, 0))
-        } else if let Some(place) = self.word.iter().position(|byte| !byte.is_ascii_lowercase()) {
+        } else if let Some(place) = self.word.iter().position(|b| !b.is_ascii_alphabetic()) {
             Some(self.refused(8, place))
         } else if self.table < self.need() {
             Some(self.refused(9, 0))

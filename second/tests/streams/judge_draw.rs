@@ -9,7 +9,7 @@ use crate::judge::{calls, check_answer, Answer, Call};
 use crate::{answer_lines, cases, stream};
 
 /// The seeds that the tests below draw from.
-const SEEDS: [usize; 6] = [1, 2, 3, 4, 5, 6];
+const SEEDS: [usize; 6] = [1, 2, 4, 6, 7, 8];
 
 /// The command for a stream as long as the limit lets it be.
 fn longest(seed: usize) -> String {
@@ -149,7 +149,7 @@ fn faults_come_with_other_faults() {
         let mut all = all.iter();
         all.any(|(call, answer)| answer.number == number && meets(call))
     };
-    let has_bad_byte = |call: &Call| !call.word.iter().all(u8::is_ascii_lowercase);
+    let has_bad_byte = |call: &Call| !call.word.iter().all(u8::is_ascii_alphabetic);
     assert!(some(4, &has_bad_byte) && some(7, &has_bad_byte));
     assert!(some(4, &|call| call.limit == 0 && call.table < 4));
     assert!(some(7, &|call| call.table >= call.need()));
@@ -161,9 +161,37 @@ fn faults_come_with_other_faults() {
     let bytes: BTreeSet<u8> = bad_bytes
         .map(|(call, answer)| call.word[answer.place])
         .collect();
-    for byte in [96, 123, 0, 255, b'A'] {
+    for byte in (91..=96).chain([64, 123, 0, 255]) {
         assert!(bytes.contains(&byte), "byte {byte}");
     }
+}
+
+#[test]
+fn letters_of_both_cases_come_together_and_alone() {
+    let all = many();
+    let accepted = |meets: &dyn Fn(&Call) -> bool| {
+        share(all, |call, answer| answer.number == 0 && meets(call))
+    };
+    let capital = |text: &[u8]| text.iter().any(u8::is_ascii_uppercase);
+    let small = |text: &[u8]| text.iter().any(u8::is_ascii_lowercase);
+    let in_rule = accepted(&|call| capital(&call.rule));
+    let in_word = accepted(&|call| capital(&call.word));
+    assert!(in_rule >= 15 && in_word >= 15, "{in_rule} {in_word}");
+    let in_neither = accepted(&|call| !capital(&call.rule) && !capital(&call.word));
+    assert!(in_neither >= 15, "{in_neither} in a hundred");
+    // A letter of the rule stands in the word in the other case.
+    let is_met = |letter: u8, call: &Call| call.word.iter().any(|&event| event ^ letter == 32);
+    let met = |call: &Call| {
+        let mut letters = call.rule.iter().filter(|byte| byte.is_ascii_alphabetic());
+        letters.any(|&letter| is_met(letter, call))
+    };
+    let both = accepted(&met);
+    assert!(both >= 15, "{both} in a hundred");
+    // A complement is asked about a word with letters that the rule lacks in that case.
+    let complement = |call: &Call| call.rule.contains(&b'!');
+    let half = accepted(&|call| complement(call) && !capital(&call.rule) && capital(&call.word));
+    let other_half = accepted(&|call| complement(call) && !small(&call.rule) && small(&call.word));
+    assert!(half >= 1 && other_half >= 1, "{half} {other_half}");
 }
 
 /// The sides of a node.

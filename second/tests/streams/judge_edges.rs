@@ -333,13 +333,48 @@ fn every_short_sentence_is_judged() {
     }
 }
 
+/// The letters as the edges have them in one word.
+fn alphabet() -> Vec<u8> {
+    (b'a'..=b'z').chain(b'A'..=b'Z').collect()
+}
+
 #[test]
-fn every_letter_is_a_rule_on_the_alphabet() {
-    let alphabet: Vec<u8> = (b'a'..=b'z').collect();
-    for (i, &letter) in alphabet.iter().enumerate() {
-        check_spans(edges(), &[letter], &alphabet, &[(i, i + 1)]);
+fn every_letter_is_itself_in_one_case_alone() {
+    for (small, capital) in (b'a'..=b'z').zip(b'A'..=b'Z') {
+        check_spans(edges(), &[small], &[small, capital], &[(0, 1)]);
+        check_spans(edges(), &[capital], &[small, capital], &[(1, 2)]);
     }
-    check_spans(edges(), &alphabet, &alphabet, &[(0, 26)]);
+    let alphabet = alphabet();
+    let (small, capital) = alphabet.split_at(26);
+    check_spans(edges(), small, &alphabet, &[(0, 26)]);
+    check_spans(edges(), capital, &alphabet, &[(26, 52)]);
+    check_spans(edges(), b"a", b"A", &[]);
+    check_spans(edges(), b"A", b"a", &[]);
+    check_spans(edges(), b"A", b"A", &[(0, 1)]);
+    check_spans(edges(), b"Z", b"zZ", &[(1, 2)]);
+    check_spans(edges(), b"z", b"Zz", &[(1, 2)]);
+    check_spans(edges(), b"aA", b"aAaa", &[(0, 2)]);
+    check_spans(edges(), b"a&A", b"aA", &[]);
+}
+
+#[test]
+fn a_complement_is_against_all_letters() {
+    let but = |n: usize, missing: &[(usize, usize)]| -> Vec<(usize, usize)> {
+        let spans = all_spans(n).into_iter();
+        spans.filter(|span| !missing.contains(span)).collect()
+    };
+    let alphabet = alphabet();
+    check_spans(edges(), b"!0", &alphabet, &all_spans(52));
+    let empty: Vec<(usize, usize)> = (0..=52).map(|i| (i, i)).collect();
+    let and_one = |i: usize| [&empty[..], &[(i, i + 1)]].concat();
+    check_spans(edges(), b"!a*", &alphabet, &but(52, &and_one(0)));
+    check_spans(edges(), b"!Z*", &alphabet, &but(52, &and_one(51)));
+    check_spans(edges(), b"!a", b"A", &all_spans(1));
+    check_spans(edges(), b"!a", b"aA", &but(2, &[(0, 1)]));
+    check_spans(edges(), b"!A", b"a", &all_spans(1));
+    check_spans(edges(), b"!A", b"Aa", &but(2, &[(0, 1)]));
+    check_spans(edges(), b"!!A", b"aA", &[(1, 2)]);
+    check_spans(edges(), b"!a&!A", b"aAb", &but(3, &[(0, 1), (1, 2)]));
 }
 
 #[test]
@@ -448,7 +483,7 @@ fn every_byte_stands_as_a_word() {
         let (call, answer) = found.iter().find(is_it).unwrap();
         let expected = match byte {
             b'a' => call.accepted(3, &[2, 0, 0, 0, 0, 0, 0, 0]),
-            b'b'..=b'z' => call.accepted(2, &[0; 8]),
+            b'A'..=b'Z' | b'b'..=b'z' => call.accepted(2, &[0; 8]),
             _ => call.refused(8, 0),
         };
         assert_eq!(*answer, expected, "byte {byte}");
@@ -458,13 +493,14 @@ fn every_byte_stands_as_a_word() {
 #[test]
 fn a_bad_byte_is_8_at_the_first_one() {
     let edges = edges();
-    let places: [(&[u8], usize); 10] = [
+    let places: [(&[u8], usize); 11] = [
         (b"`bab", 0),
         (b"a{ab", 1),
         (b"ab\0b", 2),
         (b"aba\xff", 3),
-        (b"aAab", 1),
-        (b"aBaC", 1),
+        (b"a[ab", 1),
+        (b"aba_", 3),
+        (b"a_a@", 1),
         (b"a{a`", 1),
         (b"a`a{", 1),
         (b"\xff\0ab", 0),
@@ -475,9 +511,32 @@ fn a_bad_byte_is_8_at_the_first_one() {
         assert_eq!(*answer, call.refused(8, place), "{}", word.escape_ascii());
     }
     let mut word = vec![b'a'; 255];
-    word[254] = b'A';
+    word[254] = b'_';
     let (call, answer) = of(edges, b"a", &word)[0];
     assert_eq!(*answer, call.refused(8, 254));
+    let (_, answer) = of(edges, b"a*", b"aBaC")[0];
+    assert_eq!((answer.number, answer.found), (0, 7));
+}
+
+#[test]
+fn the_ends_of_the_letters_stand_everywhere_in_a_word() {
+    let edges = edges();
+    for (word, place) in [("?b", 0), ("a?b", 1), ("a?", 1)] {
+        let with = |byte: u8| {
+            word.replace('?', &char::from(byte).to_string())
+                .into_bytes()
+        };
+        for letter in [65, 90, 97, 122] {
+            let word = with(letter);
+            let is_a = |i: &usize| word[*i] == b'a';
+            let spans: Vec<_> = (0..word.len()).filter(is_a).map(|i| (i, i + 1)).collect();
+            check_spans(edges, b"a", &word, &spans);
+        }
+        for byte in [64, 91, 92, 93, 94, 95, 96, 123] {
+            let (call, answer) = of(edges, b"a", &with(byte))[0];
+            assert_eq!(*answer, call.refused(8, place), "byte {byte}");
+        }
+    }
 }
 
 #[test]
@@ -492,13 +551,13 @@ fn of_several_faults_the_lowest_number_wins() {
     // 7 with enough of everything, with a short table, with no limit, and with a bad byte.
     assert_eq!(some(b"a", &long, 1_028, u64::MAX).number, 7);
     assert_eq!(some(b"a", &long, 3, 0).number, 7);
-    let long_and_bad = [&long[..], b"A"].concat();
+    let long_and_bad = [&long[..], b"_"].concat();
     assert_eq!(some(b"a", &long_and_bad, 3, u64::MAX).number, 7);
-    assert_eq!(some(b"a", &[b'A'; 256], 3, 0).number, 7);
+    assert_eq!(some(b"a", &[b'_'; 256], 3, 0).number, 7);
     // 8 with a short table and with no limit.
     for table in [0, 3, 11, 12, 15] {
         for limit in [0, u64::MAX] {
-            let answer = some(b"a", b"aA", table, limit);
+            let answer = some(b"a", b"a_", table, limit);
             assert_eq!((answer.number, answer.place), (8, 1), "{table} {limit}");
         }
     }
@@ -510,8 +569,8 @@ fn the_rule_texts_row_comes_first() {
     let bad: [(&[u8], usize, usize); 11] = [
         (b"", 1, 0),
         (&[b'a'; 256], 2, 0),
-        (b"A", 3, 0),
-        (b"aA", 3, 1),
+        (b"_", 3, 0),
+        (b"a_", 3, 1),
         (b"ab\n", 3, 2),
         (b"a|", 4, 2),
         (b")", 4, 0),
@@ -525,9 +584,9 @@ fn the_rule_texts_row_comes_first() {
         (b"a", 9, u64::MAX),
         (b"a", 9, 0),
         (b"a", 0, u64::MAX),
-        (b"aB", 9, u64::MAX),
-        (b"Ba", 3, 0),
-        (&[b'B'; 256], 0, 0),
+        (b"a_", 9, u64::MAX),
+        (b"_a", 3, 0),
+        (&[b'_'; 256], 0, 0),
     ];
     for (rule, number, place) in bad {
         for (word, table, limit) in calls {

@@ -43,7 +43,7 @@ fn the_stream_is_answered_whole_and_stays_small() {
     assert!(cases.iter().all(|case| case.header[0] == "judge"));
     let lines = answer_lines(&stream);
     assert_eq!(lines.len(), cases.len());
-    assert_eq!(lines.len(), 47);
+    assert_eq!(lines.len(), 50);
     let bytes: usize = lines.iter().map(|line| line.len() + 1).sum();
     assert!(bytes <= 60_000, "{bytes} bytes of answers");
 }
@@ -191,7 +191,7 @@ fn tables_are_as_long_as_the_need_or_not() {
 
 #[test]
 fn a_bad_byte_is_8_at_the_first_one() {
-    for (word, place) in [(b"Aba", 0), (b"abA", 2), (b"a{A", 1)] {
+    for (word, place) in [(b"_ba", 0), (b"ab_", 2), (b"a{_", 1)] {
         let call = check_refused(b"a", word, 8, place);
         assert_eq!((call.table, call.limit), (call.need(), u64::MAX));
     }
@@ -202,13 +202,13 @@ fn the_rule_texts_row_comes_before_the_words_and_the_tables() {
     let bad: [(&[u8], usize, usize); 6] = [
         (b"", 1, 0),
         (&[b'a'; 256], 2, 0),
-        (b"aA", 3, 1),
+        (b"a_", 3, 1),
         (b"(a", 4, 2),
         (&[b'a'; 33], 5, 0),
         (b"!!!!!!!!a", 6, 0),
     ];
     for (rule, number, place) in bad {
-        let call = check_refused(rule, b"aB", number, place);
+        let call = check_refused(rule, b"a_", number, place);
         assert_eq!((call.table, call.limit), (0, 0));
     }
 }
@@ -226,4 +226,19 @@ fn the_traps_are_walked() {
     // All 8 states but the letter's exit.
     let (_, answer) = of(edges(), b"(1|a)*", b"")[0];
     assert_eq!(answer.count, 7);
+}
+
+#[test]
+fn the_traps_of_the_letters_come_last() {
+    check_spans(edges(), b"A", b"A", &[(0, 1)]);
+    check_spans(
+        edges(),
+        b"!a",
+        b"aA",
+        &[(0, 0), (0, 2), (1, 1), (1, 2), (2, 2)],
+    );
+    check_spans(edges(), b"Z", b"zZ", &[(1, 2)]);
+    let last = edges()[47..].iter();
+    let words: Vec<&[u8]> = last.map(|(call, _)| &call.word[..]).collect();
+    assert_eq!(words, [&b"A"[..], b"aA", b"zZ"]);
 }

@@ -1,0 +1,140 @@
+//! What a case shows of the letters, besides the number that should come.
+
+use std::fmt;
+use std::ops::RangeInclusive;
+
+use super::call::Callee;
+use super::request::Asked;
+use crate::refusal::Reason;
+use crate::{day, job};
+
+/// The bytes between the capitals and the small letters, which are no letters.
+const BETWEEN: RangeInclusive<u8> = b'['..=b'`';
+
+/// What a case may show.
+#[derive(Clone, Copy, Debug, PartialEq, Eq, PartialOrd, Ord)]
+pub enum Letters {
+    /// A capital stands in the rule, or in the word, or in the day, and all is accepted.
+    CapitalInRule,
+    CapitalInWord,
+    CapitalInDay,
+    /// A byte between the two runs of letters is what the rule, the word or the day is refused for.
+    BetweenInRule,
+    BetweenInWord,
+    BetweenInDay,
+}
+
+impl Letters {
+    /// What the cases of a callee have to show.
+    pub fn of(callee: Callee) -> &'static [Letters] {
+        use Letters::*;
+        match callee {
+            Callee::ReadRule => &[CapitalInRule, BetweenInRule],
+            Callee::ReadDay => &[CapitalInDay, BetweenInDay],
+            Callee::Judge => &[CapitalInRule, CapitalInWord, BetweenInRule, BetweenInWord],
+            Callee::RunJob | Callee::Program => {
+                &[CapitalInRule, CapitalInDay, BetweenInRule, BetweenInDay]
+            }
+            Callee::Troubled => &[],
+        }
+    }
+}
+
+impl fmt::Display for Letters {
+    fn fmt(&self, formatter: &mut fmt::Formatter) -> fmt::Result {
+        formatter.pad(match self {
+            Letters::CapitalInRule => "accepted, rule with capital",
+            Letters::CapitalInWord => "accepted, word with capital",
+            Letters::CapitalInDay => "accepted, day with capital",
+            Letters::BetweenInRule => "refusal 3 for byte 91 to 96",
+            Letters::BetweenInWord => "refusal 8 for byte 91 to 96",
+            Letters::BetweenInDay => "refusal 12 for byte 91 to 96",
+        })
+    }
+}
+
+/// What a call shows that should give such a number and place.
+pub fn shown(asked: &Asked, number: u32, place: usize) -> Vec<Letters> {
+    let mut parts = Parts::default();
+    match asked {
+        Asked::Rule { text, .. } => parts.rule = text,
+        Asked::Day { file, .. } => parts.day = file,
+        Asked::Judge { rule, word, .. } => (parts.rule, parts.word) = (rule, word),
+        Asked::Job { job, .. } => return shown_by_job(job, number, place),
+    }
+    parts.shown(number, place)
+}
+
+/// What a job shows that should give such a number and place.
+pub fn shown_by_job(job: &[u8], number: u32, place: usize) -> Vec<Letters> {
+    let mut parts = Parts::default();
+    if let Ok((rule, day)) = job::split_job(job) {
+        (parts.rule, parts.day) = (rule, day);
+    }
+    parts.shown(number, place)
+}
+
+/// The parts of a case in which letters stand; those that it does not have are empty.
+#[derive(Default)]
+struct Parts<'a> {
+    rule: &'a [u8],
+    word: &'a [u8],
+    day: &'a [u8],
+}
+
+impl Parts<'_> {
+    /// What they show with such a number and place.
+    fn shown(&self, number: u32, place: usize) -> Vec<Letters> {
+        const ACCEPTED: u32 = 0;
+        const RULE_BYTE: u32 = Reason::RuleByte as u32;
+        const WORD_BYTE: u32 = Reason::WordByte as u32;
+        const LINE_FORM: u32 = Reason::LineForm as u32;
+        let only = |meets: bool, shown: Letters| meets.then_some(shown).into_iter().collect();
+        match number {
+            ACCEPTED => self.capitals(),
+            RULE_BYTE => only(is_between(self.rule[place]), Letters::BetweenInRule),
+            WORD_BYTE => only(is_between(self.word[place]), Letters::BetweenInWord),
+            LINE_FORM => only(has_letter_between(self.day, place), Letters::BetweenInDay),
+            _ => Vec::new(),
+        }
+    }
+
+    /// In which parts a capital stands.
+    fn capitals(&self) -> Vec<Letters> {
+        let in_days = day_letters(self.day);
+        let parts = [
+            (self.rule, Letters::CapitalInRule),
+            (self.word, Letters::CapitalInWord),
+            (&in_days, Letters::CapitalInDay),
+        ];
+        let has_capital = |part: &[u8]| part.iter().any(u8::is_ascii_uppercase);
+        let with_capital = parts.into_iter().filter(|(part, _)| has_capital(part));
+        with_capital.map(|(_, shown)| shown).collect()
+    }
+}
+
+/// Whether a byte stands between the two runs of letters.
+fn is_between(byte: u8) -> bool {
+    BETWEEN.contains(&byte)
+}
+
+/// The letters of an accepted day.
+fn day_letters(day: &[u8]) -> Vec<u8> {
+    let lines = day.split_inclusive(|&byte| byte == b'\n');
+    lines
+        .filter_map(|line| line.iter().rev().nth(1).copied())
+        .collect()
+}
+
+/// Whether a line of a day, counted from 1, is of the form but for a letter between the two runs.
+fn has_letter_between(day: &[u8], place: usize) -> bool {
+    let mut lines = day.split_inclusive(|&byte| byte == b'\n');
+    let line = lines.nth(place - 1).expect("a bad line has its place");
+    let Some((before, [letter, end])) = line.split_last_chunk() else {
+        return false;
+    };
+    let with_good_letter = [before, &[b'a', *end]].concat();
+    let refusal = day::read(&with_good_letter, &mut [0], &mut [0]).err();
+    let is_of_form = refusal.is_none_or(|refusal| refusal.reason != Reason::LineForm);
+    is_between(*letter) && is_of_form
+}

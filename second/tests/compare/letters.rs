@@ -1,0 +1,302 @@
+//! What cases show of the letters, and that the edges find libraries with wrong letters.
+
+use std::collections::HashSet;
+use std::ops::RangeInclusive;
+
+use second::compare::call::{Call, Callee, Kind};
+use second::compare::check::check;
+use second::compare::edge_requests::requests;
+use second::compare::letters::{shown, Letters};
+use second::compare::reference;
+use second::compare::request::{Asked, Request};
+use second::compare::run::Run;
+use second::job::split_job;
+
+/// What a rule shows.
+fn of_rule(text: &[u8], number: u32, place: usize) -> Vec<Letters> {
+    let (text, nodes) = (text.to_vec(), 128);
+    shown(&Asked::Rule { text, nodes }, number, place)
+}
+
+/// What a day shows.
+fn of_day(file: &[u8], number: u32, place: usize) -> Vec<Letters> {
+    let day = Asked::Day {
+        file: file.to_vec(),
+        letters: 9,
+        seconds: 9,
+    };
+    shown(&day, number, place)
+}
+
+/// What a judge call shows.
+fn of_judge(rule: &[u8], word: &[u8], number: u32, place: usize) -> Vec<Letters> {
+    let judge = Asked::Judge {
+        rule: rule.to_vec(),
+        word: word.to_vec(),
+        limit: 9,
+        table: 99,
+    };
+    shown(&judge, number, place)
+}
+
+/// What a job shows.
+fn of_job(job: &[u8], number: u32, place: usize) -> Vec<Letters> {
+    let (job, out) = (job.to_vec(), 99);
+    shown(&Asked::Job { job, out }, number, place)
+}
+
+#[test]
+fn capitals_are_seen_in_what_is_accepted() {
+    assert_eq!(of_rule(b"aB", 0, 0), [Letters::CapitalInRule]);
+    assert_eq!(of_rule(b"ab", 0, 0), []);
+    assert_eq!(of_rule(b"A|", 4, 2), []);
+    let in_both = [Letters::CapitalInRule, Letters::CapitalInWord];
+    assert_eq!(of_judge(b"A", b"aA", 0, 0), in_both);
+    assert_eq!(of_judge(b"a", b"aA", 0, 0), [Letters::CapitalInWord]);
+    assert_eq!(of_judge(b"A", b"A", 10, 0), []);
+    // A tag is no letter.
+    assert_eq!(of_day(b"E\t0\ta\nE\t0\tb\n", 0, 0), []);
+    assert_eq!(of_day(b"E\t0\ta\nE\t0\tB\n", 0, 0), [Letters::CapitalInDay]);
+    let in_both = [Letters::CapitalInRule, Letters::CapitalInDay];
+    assert_eq!(of_job(b"R\tA\nE\t0\tE\n", 0, 0), in_both);
+    assert_eq!(of_job(b"R\ta\nE\t0\ta\n", 0, 0), []);
+}
+
+#[test]
+fn bytes_between_the_cases_are_seen_where_they_are_refused() {
+    for byte in 0..=255u8 {
+        let only = |letters: Letters| match byte {
+            91..=96 => vec![letters],
+            _ => vec![],
+        };
+        let rule = only(Letters::BetweenInRule);
+        assert_eq!(of_rule(&[b'a', byte], 3, 1), rule);
+        assert_eq!(of_judge(&[b'a', byte], b"", 3, 1), rule);
+        assert_eq!(of_judge(b"a", &[byte], 8, 0), only(Letters::BetweenInWord));
+        let day = [b"E\t0\ta\nE\t1\t", &[byte][..], b"\n"].concat();
+        let in_day = only(Letters::BetweenInDay);
+        assert_eq!(of_day(&day, 12, 2), in_day);
+        assert_eq!(of_job(&[b"R\ta\n", &day[..]].concat(), 12, 2), in_day);
+    }
+    // Something else is wrong with the line as well, or instead.
+    for day in [
+        &b"E\t01\t_\n"[..],
+        b"e\t1\t_\n",
+        b"E\t1\t_",
+        b"\n",
+        b"_",
+        b"E\t1\t_\t\n",
+    ] {
+        assert_eq!(of_day(day, 12, 1), []);
+    }
+    // The second is judged later.
+    assert_eq!(of_day(b"E\t99999\t_\n", 12, 1), [Letters::BetweenInDay]);
+    assert_eq!(of_job(b"r\t_\n", 16, 0), []);
+}
+
+#[test]
+fn what_is_never_shown_is_a_failure() {
+    let mut output = Vec::new();
+    let run = Run::new(&mut output);
+    assert!(!run.finish(&[Callee::Judge, Callee::Program]).unwrap());
+    let text = String::from_utf8(output).unwrap();
+    for missing in [
+        "wuz_judge never had accepted, rule with capital",
+        "wuz_judge never had accepted, word with capital",
+        "wuz_judge never had refusal 3 for byte 91 to 96",
+        "wuz_judge never had refusal 8 for byte 91 to 96",
+        "the program never had accepted, day with capital",
+        "the program never had refusal 12 for byte 91 to 96",
+    ] {
+        assert!(text.contains(&format!("MISSING: {missing}\n")), "{missing}");
+    }
+    let shown = |kind: &Kind| matches!(kind, Kind::Shown(_));
+    let count = |callee: Callee| callee.kinds().iter().filter(|kind| shown(kind)).count();
+    assert_eq!(Callee::LIBRARY.map(count), [2, 2, 4, 4]);
+}
+
+/// A mistake that a library makes: what it takes a byte for that stands where an event can.
+type Mistake<'a> = &'a dyn Fn(u8) -> u8;
+
+/// The bytes of a rule or a word as the library takes them.
+fn taken(bytes: &[u8], mistake: Mistake) -> Vec<u8> {
+    bytes.iter().map(|&byte| mistake(byte)).collect()
+}
+
+/// The bytes of a day or a job as the library takes them: only what stands between a tab and a
+/// newline is changed.
+fn taken_lines(bytes: &[u8], mistake: Mistake) -> Vec<u8> {
+    let mut taken = bytes.to_vec();
+    for (at, part) in bytes.windows(3).enumerate() {
+        if let [b'\t', byte, b'\n'] = part {
+            taken[at + 1] = mistake(*byte);
+        }
+    }
+    taken
+}
+
+/// What a library does with a call that makes the mistake in it.
+fn done_wrong(call: Call, mistake: Mistake) -> u64 {
+    let number = match call {
+        Call::ReadRule {
+            text,
+            answer,
+            nodes,
+        } => reference::run(Call::ReadRule {
+            text: &taken(text, mistake),
+            answer,
+            nodes,
+        }),
+        Call::ReadDay {
+            file,
+            letters,
+            seconds,
+            answer,
+        } => reference::run(Call::ReadDay {
+            file: &taken_lines(file, mistake),
+            letters,
+            seconds,
+            answer,
+        }),
+        Call::Judge {
+            rule,
+            word,
+            limit,
+            table,
+            answer,
+        } => reference::run(Call::Judge {
+            rule: &taken(rule, mistake),
+            word: &taken(word, mistake),
+            limit,
+            table,
+            answer,
+        }),
+        Call::RunJob { job, out, answer } => reference::run(Call::RunJob {
+            job: &taken_lines(job, mistake),
+            out,
+            answer,
+        }),
+    };
+    reference::returned(number)
+}
+
+/// Whether a request is short; no other has to be asked to find a wrong letter.
+fn is_short(request: &Request) -> bool {
+    let bytes = match &request.asked {
+        Asked::Rule { text, .. } => text.len(),
+        Asked::Day { file, .. } => file.len(),
+        Asked::Judge { rule, word, .. } => rule.len() + word.len(),
+        Asked::Job { job, .. } => job.len(),
+    };
+    bytes < 40
+}
+
+/// The callees in which the edges find no difference to a library that makes the mistake.
+fn not_found(edges: &[Request], mistake: Mistake) -> Vec<Callee> {
+    let library = |_: &str, call: Call| done_wrong(call, mistake);
+    let differs = |request: &&Request| check(&library, "a case", request).difference.is_some();
+    let found = |callee: &Callee| {
+        let mut edges = edges.iter().filter(|edge| edge.asked.callee() == *callee);
+        edges.any(|request| differs(&request))
+    };
+    let callees = Callee::LIBRARY.into_iter();
+    callees.filter(|callee| !found(callee)).collect()
+}
+
+#[test]
+fn the_edges_find_a_library_with_wrong_letters() {
+    let edges: Vec<Request> = requests().into_iter().filter(is_short).collect();
+    let no_letters = [65..=90, 97..=122, 65..=65, 90..=90, 97..=97, 122..=122];
+    let letters = [91..=96, 64..=64, 91..=91, 96..=96, 123..=123];
+    let with = |bytes: RangeInclusive<u8>, other: u8| {
+        move |byte: u8| if bytes.contains(&byte) { other } else { byte }
+    };
+    for bytes in no_letters {
+        let missed = not_found(&edges, &with(bytes.clone(), b'_'));
+        assert_eq!(missed, [], "{bytes:?} are no letters");
+    }
+    for bytes in letters {
+        let missed = not_found(&edges, &with(bytes.clone(), b'q'));
+        assert_eq!(missed, [], "{bytes:?} are letters");
+    }
+    // One case is taken for the other.
+    assert_eq!(not_found(&edges, &|byte| byte.to_ascii_lowercase()), []);
+    assert_eq!(not_found(&edges, &|byte| byte.to_ascii_uppercase()), []);
+    assert_eq!(not_found(&edges, &|byte| byte), Callee::LIBRARY);
+}
+
+/// Places in a rule, in a word and in a day; the question mark stands for the byte.
+const RULE_PLACES: [&str; 9] = ["?", "?b", "a?b", "a?", "!?", "a|?", "a&?", "(?)", "?*"];
+const WORD_PLACES: [&str; 4] = ["?", "?b", "a?b", "a?"];
+const DAY_PLACES: [&str; 4] = [
+    "E\t5\t?\n",
+    "E\t5\t?\nE\t5\tb\n",
+    "E\t5\ta\nE\t5\t?\nE\t5\tb\n",
+    "E\t5\ta\nE\t5\t?\n",
+];
+
+/// All that the edges ask, by what reads it.
+#[derive(Default)]
+struct AllAsked {
+    rules: HashSet<Vec<u8>>,
+    days: HashSet<Vec<u8>>,
+    judged_rules: HashSet<Vec<u8>>,
+    /// The words on which the judge is asked about a complement.
+    judged_words: HashSet<Vec<u8>>,
+    job_rules: HashSet<Vec<u8>>,
+    job_days: HashSet<Vec<u8>>,
+}
+
+impl AllAsked {
+    /// Adds a request.
+    fn add(&mut self, request: Request) {
+        match request.asked {
+            Asked::Rule { text, .. } => drop(self.rules.insert(text)),
+            Asked::Day { file, .. } => drop(self.days.insert(file)),
+            Asked::Judge { rule, word, .. } => {
+                if rule == b"!a" {
+                    self.judged_words.insert(word);
+                }
+                self.judged_rules.insert(rule);
+            }
+            Asked::Job { job, .. } => {
+                if let Ok((rule, day)) = split_job(&job) {
+                    self.job_rules.insert(rule.to_vec());
+                    self.job_days.insert(day.to_vec());
+                }
+            }
+        }
+    }
+}
+
+/// Checks that a byte was asked at a place.
+fn check_asked(asked: &HashSet<Vec<u8>>, place: &str, byte: u8) {
+    let with_byte = |other: u8| if other == b'?' { byte } else { other };
+    let text: Vec<u8> = place.bytes().map(with_byte).collect();
+    assert!(asked.contains(&text), "{}", text.escape_ascii());
+}
+
+#[test]
+fn every_byte_is_asked_at_every_place() {
+    let mut asked = AllAsked::default();
+    requests()
+        .into_iter()
+        .for_each(|request| asked.add(request));
+    for byte in 0..=255 {
+        for place in RULE_PLACES {
+            check_asked(&asked.rules, place, byte);
+            check_asked(&asked.judged_rules, place, byte);
+            // A rule in a job ends at a newline.
+            if byte != b'\n' {
+                check_asked(&asked.job_rules, place, byte);
+            }
+        }
+        for place in WORD_PLACES {
+            check_asked(&asked.judged_words, place, byte);
+        }
+        for place in DAY_PLACES {
+            check_asked(&asked.days, place, byte);
+            check_asked(&asked.job_days, place, byte);
+        }
+    }
+}
