@@ -1,5 +1,5 @@
 # The project's commands. `make` alone lists them.
-.PHONY: help run test prove library install second compare bench
+.PHONY: help run test prove times library install second compare bench
 SHELL := /bin/bash
 .SHELLFLAGS := -o pipefail -c
 
@@ -7,6 +7,7 @@ help:
 	@echo "make run       proves what is not proved yet, then runs the program on the worked day of README.md and shows the list"
 	@echo "make test      the gate: formatting, proofs, must-fail edits, examples, and every comparison with the second program"
 	@echo "make prove     the proofs alone, from what has changed"
+	@echo "make times     the check's time: proves all from nothing, the seconds of each crate as a table; BEFORE=commit proves that first"
 	@echo "make library   the static library for C; says where it is and how to link it"
 	@echo "make install   puts header, archive, program and a pkg-config file under PREFIX (/usr/local)"
 	@echo "make second    builds the second program: second/target/release/second"
@@ -33,6 +34,9 @@ library:
 	@echo "archive: $(CURDIR)/target/staticlib/libwuzlevor.a"
 	@echo "header:  $(CURDIR)/include/wuzlevor.h"
 	@echo "link:    cc -I $(CURDIR)/include YOURS.c $(CURDIR)/target/staticlib/libwuzlevor.a"
+
+times:
+	@scripts/check_times $(BEFORE)
 
 PREFIX ?= /usr/local
 install: library

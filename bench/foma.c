@@ -8,17 +8,21 @@
 #include <sys/resource.h>
 #include <time.h>
 
-enum { MOST_JOB = 4096, LETTERS = 26, SCANS = 50, OTHER_LETTER = 2 /* foma's number for any symbol it has not seen */ };
+enum { MOST_JOB = 4096, COLUMNS = 64, SCANS = 50, OTHER_LETTER = 2 /* foma's number for any symbol it has not seen */ };
 
 /* A wild rule is ended by the memory it may have, if not by the bench's time limit. */
 static const rlim_t MOST_MEMORY = (rlim_t)2 << 30;
 
-/* The automaton as a table: where each state leads by each letter, or -1. */
+/* The automaton as a table: where each state leads by each letter, or -1. A letter's column is the low six bits of its byte. */
 struct table {
     int start;
-    int (*next)[LETTERS];
+    int (*next)[COLUMNS];
     char *final;
 };
+
+static int column(char letter) {
+    return letter & 63;
+}
 
 static const char *rest; /* the unread rest of the rule, which its newline ends */
 
@@ -70,11 +74,11 @@ static struct fsm *read_union(void) {
     return net;
 }
 
-/* foma's number for each letter. */
-static void number_letters(const struct fsm *net, int numbers[LETTERS]) {
-    for (int c = 0; c < LETTERS; c++) numbers[c] = OTHER_LETTER;
+/* foma's number for the letter of each column. */
+static void number_letters(const struct fsm *net, int numbers[COLUMNS]) {
+    for (int c = 0; c < COLUMNS; c++) numbers[c] = OTHER_LETTER;
     for (const struct sigma *s = net->sigma; s && s->number != -1; s = s->next)
-        if (s->symbol && strlen(s->symbol) == 1) numbers[s->symbol[0] - 'a'] = s->number;
+        if (s->symbol && strlen(s->symbol) == 1) numbers[column(s->symbol[0])] = s->number;
 }
 
 static int states_of(const struct fsm *net) {
@@ -85,14 +89,14 @@ static int states_of(const struct fsm *net) {
 }
 
 static struct table table_of(const struct fsm *net) {
-    int numbers[LETTERS], states = states_of(net);
-    struct table table = {0, malloc(sizeof(int[LETTERS]) * states), calloc(states, 1)};
-    memset(table.next, -1, sizeof(int[LETTERS]) * states);
+    int numbers[COLUMNS], states = states_of(net);
+    struct table table = {0, malloc(sizeof(int[COLUMNS]) * states), calloc(states, 1)};
+    memset(table.next, -1, sizeof(int[COLUMNS]) * states);
     number_letters(net, numbers);
     for (const struct fsm_state *s = net->states; s->state_no != -1; s++) {
         if (s->final_state == 1) table.final[s->state_no] = 1;
         if (s->start_state == 1) table.start = s->state_no;
-        for (int c = 0; c < LETTERS && s->target != -1; c++)
+        for (int c = 0; c < COLUMNS && s->target != -1; c++)
             if (numbers[c] == s->in) table.next[s->state_no][c] = s->target;
     }
     return table;
@@ -103,7 +107,7 @@ static long scan_from(const struct table *table, const char *word, int length) {
     int state = table->start;
     long found = table->final[state];
     for (int j = 0; j < length; j++) {
-        state = table->next[state][word[j] - 'a'];
+        state = table->next[state][column(word[j])];
         if (state < 0) break;
         found += table->final[state];
     }

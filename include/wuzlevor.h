@@ -1,8 +1,9 @@
 /* Wuzlevor, the day checker of an office-door reader line: the C interface of the proved library, libwuzlevor.a.
  *
- * Texts. A rule is a text of letters a to z (events), 0 (no word), 1 (the empty word), | (or), & (and), ! (not), * (any number of times)
- * and parentheses; two rules side by side are one after the other. From loosest to tightest: |, &, side by side, ! in front, * behind; what
- * has two sides groups from the left. A rule's nodes are its letters, 0s, 1s and operators, "side by side" included.
+ * Texts. An event is one byte, one of the 52 letters A to Z and a to z; a and A are two events. A rule is a text of letters, 0 (no word),
+ * 1 (the empty word), | (or), & (and), ! (not: all other words of letters), * (any number of times) and parentheses; two rules side by side
+ * are one after the other. From loosest to tightest: |, &, side by side, ! in front, * behind; what has two sides groups from the left.
+ * A rule's nodes are its letters, 0s, 1s and operators, "side by side" included.
  * A day file has a line for each event: E, tab, the second of the day in decimal (1 to 5 digits, no leading zero but 0 itself), tab, the
  * event's letter, newline. A job is a line R, tab, rule, newline, and then a day file.
  * Span (i, j) of a word or a day of n events, 0 <= i <= j <= n, is the events after the first i up to and including the j-th.
@@ -36,7 +37,7 @@
  *   15  `letters` or `seconds` is shorter than the day; of wuz_run_job, after all else: `out` is shorter than the text
  *   or, for wuz_judge, after the rule: the first of these that fits
  *    7  the word is over 255 events
- *    8  it has a byte outside a to z; place: the offset of the first one
+ *    8  it has a byte that is no letter; place: the offset of the first one
  *    9  the table has fewer numbers than are needed
  *   10  the work count is above the limit; count: the limit; the needed numbers of the table are all 0
  */

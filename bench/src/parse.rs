@@ -72,7 +72,7 @@ impl Parser<'_> {
 
     fn concatenation(&mut self) -> usize {
         let mut left = self.complement();
-        while matches!(self.peek(), b'a'..=b'z' | b'0' | b'1' | b'(' | b'!') {
+        while matches!(self.peek(), b'A'..=b'Z' | b'a'..=b'z' | b'0' | b'1' | b'(' | b'!') {
             let offset = self.at;
             let right = self.complement();
             left = self.add(offset, Kind::Concatenation, left, right);

@@ -26,6 +26,7 @@ fn known_days_with_a_count() {
         ("a*", "aa", 6, 18),
         ("a&a", "a", 1, 9),
         ("1*", "", 1, 4),
+        ("!A", "A", 2, 7),
     ];
     for (name, judge) in JUDGES {
         for (rule, word, found, count) in days {
@@ -43,6 +44,8 @@ fn known_days_without_a_count() {
         ("!ab", "ab", 1),
         ("!(ab)", "ab", 5),
         ("!a*", "aa", 0),
+        ("aA", "aAaa", 1),
+        ("!a", "aA", 5),
     ];
     for (name, judge) in JUDGES {
         for (rule, word, found) in days {

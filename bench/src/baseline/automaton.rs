@@ -12,8 +12,8 @@ const MOST_STATES: usize = 2 * MOST_NODES;
 pub struct Automaton {
     /// For each state the states that free moves lead to from it, itself included.
     pub closed: [States; MOST_STATES],
-    /// The entries of each letter, by the low five bits of its byte.
-    pub letters: [States; 32],
+    /// The entries of each letter, by the low six bits of its byte.
+    pub letters: [States; 64],
     /// The entries of the special nodes.
     pub specials: States,
     pub blocks: Blocks,
@@ -29,11 +29,11 @@ pub fn exit(node: usize) -> States {
 
 impl Automaton {
     pub fn of(nodes: &[Node], blocks: &Blocks) -> Automaton {
-        let mut letters = [0; 32];
+        let mut letters = [0; 64];
         let mut specials = 0;
         for (x, node) in nodes.iter().enumerate() {
             match node.kind {
-                Kind::Letter(letter) => letters[usize::from(letter & 31)] |= entry(x),
+                Kind::Letter(letter) => letters[usize::from(letter & 63)] |= entry(x),
                 Kind::Intersection | Kind::Complement => specials |= entry(x),
                 _ => {}
             }

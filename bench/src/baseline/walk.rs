@@ -55,7 +55,7 @@ impl<'a> Walk<'a> {
     /// The exits of the letters that the event after number j takes.
     fn carried(&self, states: States, j: usize) -> States {
         match self.word.get(j) {
-            Some(letter) => (states & self.automaton.letters[usize::from(letter & 31)]) << 1,
+            Some(letter) => (states & self.automaton.letters[usize::from(letter & 63)]) << 1,
             None => 0,
         }
     }

@@ -13,8 +13,8 @@ pub struct Automaton {
     within: [States; MOST_NODES],
     /// For each node the states that free moves lead to from its exit, itself included.
     after: [States; MOST_NODES],
-    /// The nodes of each letter, by the low five bits of its byte.
-    pub letters: [u64; 32],
+    /// The nodes of each letter, by the low six bits of its byte.
+    pub letters: [u64; 64],
     /// The special nodes.
     pub specials: u64,
     pub blocks: Blocks,
@@ -31,11 +31,11 @@ pub fn exit(node: usize) -> States {
 impl Automaton {
     pub fn of(nodes: &[Node], blocks: &Blocks) -> Automaton {
         let within = within(nodes);
-        let mut letters = [0; 32];
+        let mut letters = [0; 64];
         let mut specials = 0;
         for (x, node) in nodes.iter().enumerate() {
             match node.kind {
-                Kind::Letter(letter) => letters[usize::from(letter & 31)] |= 1 << x,
+                Kind::Letter(letter) => letters[usize::from(letter & 63)] |= 1 << x,
                 Kind::Intersection | Kind::Complement => specials |= 1 << x,
                 _ => {}
             }

@@ -84,7 +84,7 @@ pub fn walk(
         if j == word.len() {
             return (ends, count);
         }
-        let mut nodes = states as u64 & automaton.letters[usize::from(word[j] & 31)];
+        let mut nodes = states as u64 & automaton.letters[usize::from(word[j] & 63)];
         j += 1;
         nodes |= coming.at(j, &automaton.blocks.special_nodes);
         if nodes == 0 {

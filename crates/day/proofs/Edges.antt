@@ -1,4 +1,4 @@
--- The seconds that document 01 names as edges, by computation. Assumes nothing.
+-- The seconds that document 01 names as edges, and letters at the ends of the two runs, by computation. Assumes nothing.
 use Prim.Native.String.{String}
 use mathlib.Core.Path.{_≡_, refl}
 use mathlib.Core.List.{[], _∷_, map}
@@ -14,3 +14,9 @@ seconds : map (λ (s : String). dayAnswer (bytes s) (7 ∷ []) (9 ∷ [])) ("E\t
     ≡ values 0 0 1 (97 ∷ []) (86399 ∷ []) ∷ values 13 1 0 (7 ∷ []) (9 ∷ []) ∷ values 12 1 0 (7 ∷ []) (9 ∷ []) ∷ []
 unfolding dayAnswer dayLines lineOf leading isEvent
 seconds = refl
+
+-- 02 a): "An event is now one of 52 letters, in rules, words and day lines": `E` too, and no byte beside the letters
+letters : map (λ (s : String). dayAnswer (bytes s) (7 ∷ []) (9 ∷ [])) ("E\t0\tE\n" ∷ "E\t0\tZ\n" ∷ "E\t0\t[\n" ∷ [])
+    ≡ values 0 0 1 (69 ∷ []) (0 ∷ []) ∷ values 0 0 1 (90 ∷ []) (0 ∷ []) ∷ values 12 1 0 (7 ∷ []) (9 ∷ []) ∷ []
+unfolding dayAnswer dayLines lineOf leading isEvent
+letters = refl

@@ -10,7 +10,7 @@ use lib.Seq.{drop-drop, length-take-le, getD-take, getD-drop, getD-append-add, t
 use borrow.Author.Tests.{eq-eqb, eqb-true, le-leb}
 use Rattle.event.specs.Event.{isEvent}
 use Rattle.event.specs.Leading.{leading}
-use Rattle.event.proofs.EventLaws.{event-between}
+use Rattle.event.proofs.EventLaws.{event-apart}
 use Rattle.event.proofs.LeadingLaws.{leading-found}
 use Rattle.event.proofs.Tails.{rest-at}
 use Rattle.event.proofs.Tests.{and-split, T-of, of-T}
@@ -101,8 +101,8 @@ text-of : (s : List ℕ) (x c size : ℕ) → Parts s (digitCount (drop 2 s)) x 
 text-of s x c size p =
     let d = digitCount (drop 2 s) in
     let ds = take d (drop 2 s) in
-    let w = event-between c (p .event) in
-    let k : c ≡ suc (c - 1) = omega arith in
+    let z : c ≡ 0 → ⊥ = event-apart c 0 (p .event) tt in
+    let k : c ≡ suc (c - 1) = omega (arith, z) in
     let n : 2 + d ≡ d + 2 = omega arith in
     from-byte s 0 1 68 (p .tag) (omega arith)
     ∙ ap (λ (t : List ℕ). eventTag ∷ t) (from-byte s 1 2 8 (p .tab) (omega arith))

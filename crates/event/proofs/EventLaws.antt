@@ -1,15 +1,57 @@
--- Laws of events. Assumes nothing.
+-- The law of events for the crates above: what no event is, whichever letters the events are. Assumes nothing.
 use Prim.Native.Nat.{ℕ, _<_}
 use native.Mathlib.Omega.{arith}
-use lib.Dec.{T, leb, leb→le}
+use mathlib.Core.Path.{_≡_, refl}
+use mathlib.Core.Logic.{_⊎_, inl, inr}
+use mathlib.Core.Bool.{Bool, true, false, _&&_, _||_}
+use lib.Dec.{T, leb, leb→le, eqb}
+use borrow.Author.Tests.{ne-eqb, eqb-true}
 use Rattle.event.specs.Event.{isEvent}
-use Rattle.event.proofs.Tests.{and-split}
+use Rattle.event.proofs.Tests.{and-split, or-split, of-T}
 
--- an event lies between the signs `1` and `|` of a rule, and so is none of its signs
-pub event-between : (b : ℕ) → T (isEvent b) → (49 < b) × (b < 124)
+-- the numbers that stand for something else: all up to the digit `9`, that is the kinds of nodes, tab, newline, the digits and
+-- the signs of a rule, and `|`
+abbrev pub isReserved : ℕ → Bool
+isReserved c = leb c 57 || eqb c 124
+
+-- the letters lie between the digits and `|`
+letters-between : (b : ℕ) → T (isEvent b) → (57 < b) × (b < 124)
 unfolding isEvent
-event-between b h =
-    let p = and-split (leb 97 b) (leb b 122) h in
-    let l = leb→le 97 b (p .0) in
-    let u = leb→le b 122 (p .1) in
-    omega arith
+letters-between b h = go (or-split (leb 65 b && leb b 90) (leb 97 b && leb b 122) h)
+  where
+    go : T (leb 65 b && leb b 90) ⊎ T (leb 97 b && leb b 122) → (57 < b) × (b < 124)
+    go (inl x) =
+        let p = and-split (leb 65 b) (leb b 90) x in
+        let l = leb→le 65 b (p .0) in
+        let u = leb→le b 90 (p .1) in
+        omega arith
+    go (inr x) =
+        let p = and-split (leb 97 b) (leb b 122) x in
+        let l = leb→le 97 b (p .0) in
+        let u = leb→le b 122 (p .1) in
+        omega arith
+
+pub event-apart : (b c : ℕ) → T (isEvent b) → T (isReserved c) → b ≡ c → ⊥
+event-apart b c h r e =
+    let w = letters-between b h in
+    go (or-split (leb c 57) (eqb c 124) r) w
+  where
+    go : T (leb c 57) ⊎ T (eqb c 124) → (57 < b) × (b < 124) → ⊥
+    go (inl x) w = let l = leb→le c 57 x in omega arith
+    go (inr x) w = let l = eqb-true c 124 (of-T (eqb c 124) x) in omega arith
+
+-- an event is no operator, digit or parenthesis
+pub event-not : (b c : ℕ) → T (isEvent b) → T (isReserved c) → eqb b c ≡ false
+event-not b c h r = ne-eqb b c (event-apart b c h r)
+
+-- and none of those is an event; 0 among them, which is read where a text has ended
+pub reserved-foreign : (c : ℕ) → T (isReserved c) → isEvent c ≡ false
+reserved-foreign c r = go (isEvent c) (λ h. event-apart c c h r refl)
+  where
+    go : (t : Bool) → (T t → ⊥) → t ≡ false
+    go true n = absurd (n tt)
+    go false n = refl
+
+-- an event fits a byte
+pub event-byte : (b : ℕ) → T (isEvent b) → b < 256
+event-byte b h = let w = letters-between b h in omega arith

@@ -6,5 +6,9 @@ ghost use Rattle.event.specs.Event.{isEvent};
 pub fn is_event(b: u8) -> bool
     ensures { λ r. ⌜ r ≡ isEvent b ⌝ }
 {
-    b'a' <= b && b <= b'z'
+    match b {
+        b'A'..=b'Z' => true,
+        b'a'..=b'z' => true,
+        _ => false,
+    }
 }

@@ -1,5 +1,6 @@
--- The limits that document 01 names as edges, by computation. Assumes nothing.
+-- The limits that document 01 names as edges, and bytes beside the letters in a word, by computation. Assumes nothing.
 use Prim.Native.Nat.{ℕ}
+use Prim.Native.String.{String}
 use mathlib.Core.Path.{_≡_, refl}
 use mathlib.Core.List.{[], _∷_, _++_, map}
 use lib.Count.{ones}
@@ -16,7 +17,7 @@ use Rattle.regex.specs.TreeOf.{treeOf}
 use Rattle.rule.specs.RuleComputed.{ruleAnswer}
 use Rattle.work.specs.Count.{fullCount}
 use Rattle.work.specs.TableComputed.{obeys, block, table, found}
-use Rattle.matcher.specs.MatchAnswer.{values}
+use Rattle.matcher.specs.MatchAnswer.{values, refusal}
 use Rattle.matcher.specs.MatchComputed.{fitAnswer, matchAnswer}
 use Rattle.judge.specs.JudgeComputed.{judgeAnswer}
 
@@ -25,3 +26,9 @@ limits : map (λ (limit : ℕ). judgeAnswer (bytes "!a") (bytes "a") limit (repl
     ≡ values 0 0 2 7 (1 ∷ 0 ∷ 0 ∷ 0 ∷ 2 ∷ 0 ∷ 0 ∷ 0 ∷ 1 ∷ 0 ∷ 0 ∷ 0 ∷ 2 ∷ 0 ∷ 0 ∷ 0 ∷ 5 ∷ []) ∷ values 10 0 0 6 (replicate 16 0 ++ (5 ∷ [])) ∷ []
 unfolding judgeAnswer matchAnswer fitAnswer ruleAnswer leading isEvent scanFrom treeOf parse fullCount accepts obeys block table found packed packedRun onesOf ones
 limits = refl
+
+-- 02 a): 8 reads "the wider alphabet"
+beside-letters : map (λ (s : String). judgeAnswer (bytes "A") (bytes s) 9 []) ("Az@" ∷ "Za[" ∷ "aZ`" ∷ "zA{" ∷ [])
+    ≡ refusal 8 2 [] ∷ refusal 8 2 [] ∷ refusal 8 2 [] ∷ refusal 8 2 [] ∷ []
+unfolding judgeAnswer matchAnswer fitAnswer ruleAnswer leading isEvent scanFrom treeOf parse
+beside-letters = refl

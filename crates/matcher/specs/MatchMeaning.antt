@@ -44,7 +44,7 @@ pub record HoldsTable (w : Word) (t : Tree) (b : List ℕ) : Type 0 where
 pub data MatchMeaning (t : Tree) (w : Word) (limit : ℕ) (old : List ℕ) : MatchAnswer → Type 0 where
   -- "7: word over 255." "On every refusal but 10 .. no lent buffer changes"
   long-word : 255 < length w → MatchMeaning t w limit old (refusal 7 0 old)
-  -- "8: a byte outside a to z; place is the first one's offset."
+  -- "8: a byte outside a to z; place is the first one's offset."; 02 a): it reads "the wider alphabet"
   foreign-event : {n : ℕ} → length w ≤ 255 → n < length w → EventsBefore w n → isEvent (getD w n 0) ≡ false
       → MatchMeaning t w limit old (refusal 8 n old)
   -- "9: table too short."

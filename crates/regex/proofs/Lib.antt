@@ -7,3 +7,4 @@ pub mod ScanSound
 pub mod ScanDecides
 pub mod Parses
 pub mod OneReading
+mod Edges

@@ -9,7 +9,7 @@ use lib.ListN.{length, getD, drop, length-append}
 use lib.Seq.{drop-append-seam}
 use lib.Dec.{eqb, ltb}
 use borrow.Author.Tests.{lt-ltb}
-use Rattle.event.specs.Event.{isEvent}
+use Rattle.event.proofs.EventLaws.{event-not, reserved-foreign}
 use Rattle.regex.specs.Bytes.{isStart}
 use Rattle.regex.specs.Tree.{Tree, records, nodeRecord}
 use Rattle.regex.specs.Grammar.{Level, Alt, Conj, Seq, Pre, Post, Atom, Reads, alt-conj, alt-bar, conj-seq, conj-amp, seq-pre, seq-more}
@@ -19,7 +19,7 @@ use Rattle.regex.specs.Parse.{alt, altRest, conj, conjRest, seq, seqRest
 use Rattle.regex.specs.declared.Kind.{Kind}
 use Rattle.regex.specs.declared.Kind.the-variants.{Union, Intersection, Concatenation, Complement, Star}
 use Rattle.regex.specs.declared.Node.{Node}
-use Rattle.regex.proofs.Texts.{letter-not, begins, start-not}
+use Rattle.regex.proofs.Texts.{begins, start-not, start-some}
 
 module _ {A : Type 0} (push : A → ℕ → Kind → A) where
   unfoldable pub pushes : A → List Node → A
@@ -118,7 +118,7 @@ module _ {A : Type 0} (push : A → ℕ → Kind → A) where
 
   -- no Post begins with a `!`
   unbanged-atom : {o : ℕ} {u : List ℕ} {t : Tree} → Reads Atom o u t → (x : List ℕ) → eqb (getD (u ++ x) 0 0) 33 ≡ false
-  unbanged-atom (atom-letter {b = b} h) x = letter-not b 33 h (omega arith)
+  unbanged-atom (atom-letter {b = b} h) x = event-not b 33 h tt
   unbanged-atom atom-empty x = refl
   unbanged-atom atom-epsilon x = refl
   unbanged-atom (atom-group r) x = refl
@@ -197,13 +197,12 @@ module _ {A : Type 0} (push : A → ℕ → Kind → A) where
   state {l} {x} {p} e h c = subst₂ (λ (a : A) (o : ℕ). Comes l x (a, o) p) e h c
 
   nonempty : {l : Level} {o : ℕ} {u : List ℕ} {t : Tree} → Reads l o u t → 0 < length u
-  unfolding isEvent
-  nonempty {u = []} r = absurd (let z : _≡_ {A = Bool} true false = sym (begins r []) in let n : _≡_ {A = ℕ} 0 1 = cc in omega arith)
+  nonempty {u = []} r = start-some [] (begins r [])
   nonempty {u = b ∷ u} r = omega arith
 
   parses : {l : Level} {o : ℕ} {u : List ℕ} {t : Tree} → Reads l o u t → (x : List ℕ) (a : A) → Free l x → (f : ℕ)
       → measure (level l) (u ++ x) ≤ f → Goes l x (pushes a (records t), o + length u) (parse push f (level l) (u ++ x) (a, o))
-  unfolding parse records pushes isEvent
+  unfolding parse records pushes
   parses {o = o} (alt-conj {u = u} {t = t} r) x a free f n =
       lift alt conj altRest (λ f s q. refl) (omega arith) (omega arith) u x a (pushes a (records t)) o f n
       (λ g h. stops conjRest x (pushes a (records t), o + length u) (parse push g conj (u ++ x) (a, o)) (λ f. rw (free .2)) (omega arith)
@@ -214,7 +213,7 @@ module _ {A : Type 0} (push : A → ℕ → Kind → A) where
       state (two a (records t) (records w) (o + length u) Union) (omega (arith, length-append u (124 ∷ v)))
       (further conj altRest 124 Union (λ f s q. refl) (omega arith) (omega arith) v x b (pushes b (records w)) (o + length u)
       (parse push f alt ((u ++ 124 ∷ v) ++ x) (a, o))
-      (rw s (parses r (124 ∷ v ++ x) a (refl, refl, refl) f (rw s at n)))
+      (rw s (parses r (124 ∷ v ++ x) a (refl, reserved-foreign 124 tt, refl) f (rw s at n)))
       (λ g h. stops conjRest x (pushes b (records w), o + length u + 1 + length v) (parse push g conj (v ++ x) (b, o + length u + 1))
       (λ f. rw (free .2)) (omega arith) (parses q x b (free .0, free .1) g h)))
   parses {o = o} (conj-seq {u = u} {t = t} r) x a free f n =
@@ -227,7 +226,7 @@ module _ {A : Type 0} (push : A → ℕ → Kind → A) where
       state (two a (records t) (records w) (o + length u) Intersection) (omega (arith, length-append u (38 ∷ v)))
       (further seq conjRest 38 Intersection (λ f s q. refl) (omega arith) (omega arith) v x b (pushes b (records w)) (o + length u)
       (parse push f conj ((u ++ 38 ∷ v) ++ x) (a, o))
-      (rw s (parses r (38 ∷ v ++ x) a (refl, refl) f (rw s at n)))
+      (rw s (parses r (38 ∷ v ++ x) a (refl, reserved-foreign 38 tt) f (rw s at n)))
       (λ g h. stops seqRest x (pushes b (records w), o + length u + 1 + length v) (parse push g seq (v ++ x) (b, o + length u + 1))
       (λ f. rw (free .1)) (omega arith) (parses q x b (free .0) g h)))
   parses {o = o} (seq-pre {u = u} {t = t} r) x a free f n =
@@ -237,7 +236,7 @@ module _ {A : Type 0} (push : A → ℕ → Kind → A) where
       let s : (u ++ v) ++ x ≡ u ++ (v ++ x) = append-assoc u v x in
       state (two a (records t) (records w) (o + length u) Concatenation) (omega (arith, length-append u v))
       (join-read v x b (pushes b (records w)) (o + length u) (parse push f seq ((u ++ v) ++ x) (a, o)) (begins q x)
-      (rw s (parses r (v ++ x) a (start-not (getD (v ++ x) 0 0) 42 (begins q x) refl) f (rw s at n)))
+      (rw s (parses r (v ++ x) a (start-not (getD (v ++ x) 0 0) 42 (begins q x) (reserved-foreign 42 tt)) f (rw s at n)))
       (λ g h. parses q x b free g h) (nonempty q))
   parses {o = o} (pre-post {u = u} {t = t} r) x a free f n =
       post-read (u ++ x) (a, o) (pushes a (records t), o + length u) f (unbanged r x) n
@@ -254,24 +253,24 @@ module _ {A : Type 0} (push : A → ℕ → Kind → A) where
       (star-read x (pushes a (records t), o + length u) (parse push f post ((u ++ 42 ∷ []) ++ x) (a, o))
       (rw s (parses r (42 ∷ x) a tt f (rw s at n))))
   parses {o = o} (atom-letter {b = b} h) x a free f n =
-      leaf-read b x a o f (letter-not b 40 h (omega arith)) n ∙ ap₂ (λ (c : A) (m : ℕ). (c, m))
-      (simp (letter-not b 48 h (omega arith), letter-not b 49 h (omega arith))) (omega arith)
+      leaf-read b x a o f (event-not b 40 h tt) n ∙ ap₂ (λ (c : A) (m : ℕ). (c, m))
+      (simp (event-not b 48 h tt, event-not b 49 h tt)) (omega arith)
   parses {o = o} atom-empty x a free f n = leaf-read 48 x a o f refl n ∙ ap₂ (λ (c : A) (m : ℕ). (c, m)) refl (omega arith)
   parses {o = o} atom-epsilon x a free f n = leaf-read 49 x a o f refl n ∙ ap₂ (λ (c : A) (m : ℕ). (c, m)) refl (omega arith)
   parses {o = o} (atom-group {u = u} {t = t} r) x a free f n =
       let s : (u ++ 41 ∷ []) ++ x ≡ u ++ 41 ∷ x = append-assoc u (41 ∷ []) x in
       group-read ((u ++ 41 ∷ []) ++ x) u x a (pushes a (records t)) o f s n
       (λ g h. rw s (stops altRest (41 ∷ x) (pushes a (records t), o + 1 + length u) (parse push g alt (u ++ 41 ∷ x) (a, o + 1)) (λ f. refl)
-      (omega arith) (parses r (41 ∷ x) a (refl, refl, refl) g (rw s at h))))
+      (omega arith) (parses r (41 ∷ x) a (refl, reserved-foreign 41 tt, refl) g (rw s at h))))
       ∙ ap₂ (λ (c : A) (m : ℕ). (c, m)) refl (omega (arith, length-append u (41 ∷ [])))
 
   -- a sentence: the records of its tree are pushed, and all of it is read
   pub parse-whole : {s : List ℕ} {t : Tree} → Reads Alt 0 s t → (a : A) (f : ℕ) → measure alt s ≤ f
       → parse push f alt s (a, 0) ≡ (pushes a (records t), length s)
-  unfolding parse isEvent
+  unfolding parse
   parse-whole {s} {t} r a f n =
       let z = append-nil s in
       ap (λ (u : List ℕ). parse push f alt u (a, 0)) (sym z)
       ∙ stops altRest [] (pushes a (records t), 0 + length s) (parse push f alt (s ++ []) (a, 0)) (λ f. refl) (omega arith)
-      (parses r [] a (refl, refl, refl) f (rw z n))
+      (parses r [] a (refl, reserved-foreign 0 tt, refl) f (rw z n))
       ∙ ap₂ (λ (c : A) (m : ℕ). (c, m)) refl (omega arith)

@@ -8,6 +8,7 @@ use lib.ListN.{length, getD, length-append}
 use lib.Dec.{T}
 use borrow.Author.Tests.{ne-eqb}
 use Rattle.event.specs.Event.{isEvent}
+use Rattle.event.proofs.EventLaws.{event-not, reserved-foreign}
 use Rattle.regex.specs.Bytes.{isStart}
 use Rattle.regex.specs.Scan.{to, stepAfter, stepBefore, scanFrom, scanned, afterStep}
 use Rattle.regex.specs.declared.ScanResult.{ScanResult}
@@ -15,7 +16,7 @@ use Rattle.regex.specs.declared.ScanResult.the-variants as result
 use Rattle.regex.specs.Tree.{Tree, size, specials}
 use Rattle.regex.specs.Grammar.{Level, Alt, Reads, alt-conj, alt-bar, conj-seq, conj-amp, seq-pre, seq-more, pre-post, pre-bang, post-atom}
 use Rattle.regex.specs.Grammar.{post-star, atom-letter, atom-empty, atom-epsilon, atom-group}
-use Rattle.regex.proofs.Texts.{letter-not, letter-leaf, begins, start-not}
+use Rattle.regex.proofs.Texts.{letter-leaf, begins, start-not, start-some}
 
 -- a scan from a state that is written out
 abbrev from : List ℕ → ℕ → ℕ → Bool → ℕ → ℕ → ScanResult
@@ -23,14 +24,19 @@ from s i d a m k = scanFrom s i (record { depth = d; ended = a; nodes = m; speci
 
 -- after an operand, a byte that begins another is read as where one is expected, with a concatenation more
 step-join : (b d m k : ℕ) → isStart b ≡ true → stepAfter d m k b ≡ stepBefore d (m + 1) k b
-unfolding isEvent
 step-join b d m k h =
     let e : m + 1 + 1 ≡ m + 2 = omega arith in
-    simp (start-not b 42 h refl, start-not b 124 h refl, start-not b 38 h refl, start-not b 41 h refl, e)
+    simp (
+      start-not b 42 h (reserved-foreign 42 tt),
+      start-not b 124 h (reserved-foreign 124 tt),
+      start-not b 38 h (reserved-foreign 38 tt),
+      start-not b 41 h (reserved-foreign 41 tt),
+      e,
+    )
 
 join : (s : List ℕ) (i d m k : ℕ) → isStart (getD s 0 0) ≡ true → from s i d true m k ≡ from s i d false (m + 1) k
-unfolding scanFrom isEvent
-join [] i d m k h = absurd (let z : _≡_ {A = Bool} true false = sym h in let n : _≡_ {A = ℕ} 0 1 = cc in omega arith)
+unfolding scanFrom
+join [] i d m k h = absurd (omega (arith, start-some [] h))
 join (b ∷ s) i d m k h = ap (afterStep (scanFrom s) i) (step-join b d m k h)
 
 meet : (s : List ℕ) (d : ℕ) (a : Bool) {i j m n k c : ℕ} → i ≡ j → m ≡ n → k ≡ c → from s i d a m k ≡ from s j d a n c
@@ -43,7 +49,7 @@ close-step s i d m k =
     rw (ne-eqb (d + 1) 0 (λ g. omega arith), e)
 
 letter-move : (b d m k : ℕ) → T (isEvent b) → stepBefore d m k b ≡ to d true (m + 1) k
-letter-move b d m k h = simp (letter-not b 33 h (omega arith), letter-not b 40 h (omega arith), letter-leaf b h)
+letter-move b d m k h = simp (event-not b 33 h tt, event-not b 40 h tt, letter-leaf b h)
 
 letter-step : (s : List ℕ) (b i d m k : ℕ) → T (isEvent b) → from (b ∷ s) i d false m k ≡ from s (i + 1) d true (m + 1) k
 unfolding scanFrom

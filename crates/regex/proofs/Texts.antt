@@ -4,26 +4,22 @@ use native.Mathlib.Omega.{arith}
 use mathlib.Core.Path.{_≡_, refl, sym, ap, _∙_}
 use mathlib.Core.List.{List, [], _∷_, _++_, append-assoc}
 use mathlib.Core.Bool.{Bool, true, false}
-use lib.ListN.{getD}
+use lib.ListN.{length, getD}
 use lib.Dec.{T, eqb}
 use borrow.Author.Tests.{ne-eqb}
 use Rattle.event.specs.Event.{isEvent}
 use Rattle.event.proofs.Tests.{of-T}
-use Rattle.event.proofs.EventLaws.{event-between}
+use Rattle.event.proofs.EventLaws.{event-not, reserved-foreign}
 use Rattle.regex.specs.Bytes.{isLeaf, isStart}
 use Rattle.regex.specs.Tree.{Tree}
 use Rattle.regex.specs.Grammar.{Level, Reads, alt-conj, alt-bar, conj-seq, conj-amp, seq-pre, seq-more, pre-post, pre-bang, post-atom, post-star}
 use Rattle.regex.specs.Grammar.{atom-letter, atom-empty, atom-epsilon, atom-group}
 
--- a letter is a leaf, and none of the signs below the letters
-pub letter-not : (b c : ℕ) → T (isEvent b) → c < 50 → eqb b c ≡ false
-letter-not b c h l = ne-eqb b c (λ e. omega (arith, event-between b h))
-
 pub letter-leaf : (b : ℕ) → T (isEvent b) → isLeaf b ≡ true
-letter-leaf b h = simp (letter-not b 48 h (omega arith), letter-not b 49 h (omega arith), of-T (isEvent b) h)
+letter-leaf b h = simp (event-not b 48 h tt, event-not b 49 h tt, of-T (isEvent b) h)
 
 letter-start : (b : ℕ) → T (isEvent b) → isStart b ≡ true
-letter-start b h = simp (letter-not b 33 h (omega arith), letter-not b 40 h (omega arith), letter-leaf b h)
+letter-start b h = simp (event-not b 33 h tt, event-not b 40 h tt, letter-leaf b h)
 
 -- a text that is read begins with a byte that an operand can begin with
 pub begins : {l : Level} {o : ℕ} {u : List ℕ} {t : Tree} → Reads l o u t → (rest : List ℕ) → isStart (getD (u ++ rest) 0 0) ≡ true
@@ -46,3 +42,8 @@ begins (atom-group r) x = refl
 pub start-not : (b c : ℕ) → isStart b ≡ true → isStart c ≡ false → eqb b c ≡ false
 start-not b c h g = ne-eqb b c (λ e. let z : _≡_ {A = Bool} true false = sym h ∙ ap isStart e
     ∙ g in let n : _≡_ {A = ℕ} 0 1 = cc in omega arith)
+
+-- nor does one begin where a text has ended
+pub start-some : (s : List ℕ) → isStart (getD s 0 0) ≡ true → 0 < length s
+start-some [] h = let z : _≡_ {A = Bool} true false = sym h ∙ reserved-foreign 0 tt in let n : _≡_ {A = ℕ} 0 1 = cc in omega arith
+start-some (b ∷ s) h = omega arith

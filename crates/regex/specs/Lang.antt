@@ -17,7 +17,7 @@ Power L (suc i) w = Concat (Power L i) L w
 
 -- L(∅) = ∅, L(ε) = {ε}, L(σ) = {σ}; L(r₁ ∨ r₂) = L(r₁) ∪ L(r₂), L(r₁ ∧ r₂) = L(r₁) ∩ L(r₂), L(¬r₁) = Σ* \ L(r₁),
 -- L(r₁ · r₂) as above, L(r₁*) = ⋃ r₁ⁱ over i ≥ 0.
--- 01 fixes Σ: "Complement is taken against all words over the 26 letters."
+-- 02 a) fixes Σ: "complement is taken against all words over the 52".
 abbrev pub Lang : Tree → Word → Type 0
 Lang (empty o) w = ⊥
 Lang (epsilon o) w = w ≡ []

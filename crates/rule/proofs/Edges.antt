@@ -11,9 +11,9 @@ use Rattle.regex.specs.TreeOf.{treeOf}
 use Rattle.rule.specs.RuleAnswer.{refusal}
 use Rattle.rule.specs.RuleComputed.{ruleAnswer}
 
--- "`)` gives 4 at 0, `(a` at 2, `a)` at 1, `()` at 1, `a|` at 2; `A` gives 3 at 0", "eight give 6"
-refused : map (λ (s : String). ruleAnswer (bytes s)) (")" ∷ "(a" ∷ "a)" ∷ "()" ∷ "a|" ∷ "A" ∷ "!!!!!!!!a" ∷ [])
-    ≡ refusal 4 0 ∷ refusal 4 2 ∷ refusal 4 1 ∷ refusal 4 1 ∷ refusal 4 2 ∷ refusal 3 0 ∷ refusal 6 0 ∷ []
+-- "`)` gives 4 at 0, `(a` at 2, `a)` at 1, `()` at 1, `a|` at 2", "eight give 6"
+refused : map (λ (s : String). ruleAnswer (bytes s)) (")" ∷ "(a" ∷ "a)" ∷ "()" ∷ "a|" ∷ "!!!!!!!!a" ∷ [])
+    ≡ refusal 4 0 ∷ refusal 4 2 ∷ refusal 4 1 ∷ refusal 4 1 ∷ refusal 4 2 ∷ refusal 6 0 ∷ []
 unfolding ruleAnswer leading isEvent scanFrom treeOf parse
 refused = refl
 
@@ -21,3 +21,12 @@ refused = refl
 passed : (let a = ruleAnswer (bytes "!!!!!!!a") in a .number ∷ a .m ∷ a .k ∷ []) ≡ 0 ∷ 8 ∷ 7 ∷ []
 unfolding ruleAnswer leading isEvent scanFrom treeOf parse
 passed = refl
+
+-- 02 a): "01's edge `A` becomes an accepted rule", and the bytes beside the two runs of letters give 3
+radio : (let a = ruleAnswer (bytes "A") in a .number ∷ a .m ∷ a .k ∷ []) ≡ 0 ∷ 1 ∷ 0 ∷ []
+unfolding ruleAnswer leading isEvent scanFrom treeOf parse
+radio = refl
+
+beside-letters : map (λ (s : String). ruleAnswer (bytes s)) ("a@" ∷ "a[" ∷ "a`" ∷ "a{" ∷ []) ≡ refusal 3 1 ∷ refusal 3 1 ∷ refusal 3 1 ∷ refusal 3 1 ∷ []
+unfolding ruleAnswer leading isEvent scanFrom treeOf parse
+beside-letters = refl

@@ -8,12 +8,12 @@ use lib.Seq.{drop-drop}
 use lib.ListN.{length, getD, drop, length-drop}
 use lib.Dec.{eqb, ltb}
 use borrow.Author.Tests.{lt-ltb, le-ltb, eq-eqb, ne-eqb}
-use Rattle.event.specs.Event.{isEvent}
 use Rattle.event.proofs.Tails.{tail, tail-is}
 use Rattle.regex.specs.Bytes.{isStart}
 use Rattle.regex.specs.Parse.{Call, alt, altRest, conj, conjRest, seq, seqRest, pre, post, postRest, atom, rank, measure, parse, leafKind}
 use Rattle.regex.specs.declared.Kind.{Kind}
 use Rattle.regex.specs.declared.Kind.the-variants.{Union, Intersection, Concatenation, Complement, Star}
+use Rattle.regex.proofs.Texts.{start-some}
 use Rattle.rule.specs.Reader.{State, Done, at, add, pushed, skipped, least}
 use Rattle.rule.specs.declared.levels.Reading.{Reading}
 
@@ -77,14 +77,9 @@ start-at s n e h g = sym (ap isStart (e ∙ first-is n s)) ∙ sym h ∙ g
 
 started-at : (s : List ℕ) (n : ℕ) {x : ℕ} {t : Bool} → x ≡ getD (tail n s) 0 0 → t ≡ isStart x → t ≡ true
     → (n < length s) × (isStart (getD (drop n s) 0 0) ≡ true)
-unfolding isEvent
 started-at s n e h g =
     let t = start-at s n e h g in
-    (omega (arith, length-drop n s, there (drop n s) t), t)
-  where
-    there : (s : List ℕ) → isStart (getD s 0 0) ≡ true → 0 < length s
-    there [] e = let z : _≡_ {A = Bool} true false = sym e in let n : _≡_ {A = ℕ} 0 1 = cc in omega arith
-    there (x ∷ s) e = omega arith
+    (omega (arith, length-drop n s, start-some (drop n s) t), t)
 
 -- two names of one reading, and of one state
 pub named : {x y : Reading} (l : List ℕ) → x ≡ y → at x l ≡ at y l

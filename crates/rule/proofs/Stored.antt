@@ -6,9 +6,9 @@ use mathlib.Core.List.{List, [], _∷_, _++_, map, map-append}
 use lib.Dec.{T}
 use lib.ListN.{length, getD, take, drop, set, replicate, length-set, length-replicate, replicate-append-replicate}
 use lib.Seq.{sets, sets-eq, drop-at, take-suc, take-suc-set, take-all}
-use borrow.Author.Tests.{lt-ltb, ne-eqb}
+use borrow.Author.Tests.{lt-ltb}
 use Rattle.event.specs.Event.{isEvent}
-use Rattle.event.proofs.EventLaws.{event-between}
+use Rattle.event.proofs.EventLaws.{event-not, event-byte}
 use Rattle.regex.specs.KindNumber.{kindNumber}
 use Rattle.regex.specs.Tree.{Tree, size, records, nodeRecord}
 use Rattle.regex.specs.Grammar.{Level, Reads, alt-conj, alt-bar, conj-seq, conj-amp, seq-pre, seq-more}
@@ -73,17 +73,15 @@ zeros-after n m h =
 -- an event is no other kind's number
 letter-back : (b : ℕ) → T (isEvent b) → kindOf b ≡ Letter b
 letter-back b h =
-    let w = event-between b h in
-    let m : b % 256 ≡ b = omega arith in
-    let n : (k : ℕ) → k < 7 → b ≡ k → ⊥ = λ k i e. omega arith in
+    let m : b % 256 ≡ b = omega (arith, event-byte b h) in
     simp (
-      ne-eqb b 0 (n 0 (omega arith)),
-      ne-eqb b 1 (n 1 (omega arith)),
-      ne-eqb b 2 (n 2 (omega arith)),
-      ne-eqb b 3 (n 3 (omega arith)),
-      ne-eqb b 4 (n 4 (omega arith)),
-      ne-eqb b 5 (n 5 (omega arith)),
-      ne-eqb b 6 (n 6 (omega arith)),
+      event-not b 0 h tt,
+      event-not b 1 h tt,
+      event-not b 2 h tt,
+      event-not b 3 h tt,
+      event-not b 4 h tt,
+      event-not b 5 h tt,
+      event-not b 6 h tt,
       m,
     )
 

@@ -1,25 +1,24 @@
 -- `is_rule_byte` is the test `isRuleByte`. Assumes nothing.
-use mathlib.Core.Path.{sym, ap}
+use mathlib.Core.Path.{sym, ap, _∙_}
 use mathlib.Core.Bool.{or-false}
 use borrow.Author.Tests.{ne-eqb}
-use Rattle.event.specs.Event.{isEvent}
+use Rattle.event.proofs.EventLaws.{reserved-foreign}
 use Rattle.rule.specs.RuleAnswer.{isRuleByte}
 use Rattle.rule.proofs.bytes.is_rule_byte.Statement.{statement}
 use Rattle.rule.proofs.bytes.is_rule_byte.Tie as tie
 
 pub is-rule-byte-spec : {M : Type 1} → statement M
-unfolding isEvent
 is-rule-byte-spec =
     tie.close (tie.spec
     (λ c κs. tt)
-    (λ c. sym (ap isRuleByte (c .match .keys1)))
-    (λ c. sym (ap isRuleByte (c .match .keys2)))
-    (λ c. sym (ap isRuleByte (c .match .keys3)))
-    (λ c. sym (ap isRuleByte (c .match .keys4)))
-    (λ c. sym (ap isRuleByte (c .match .keys5)))
-    (λ c. sym (ap isRuleByte (c .match .keys6)))
-    (λ c. sym (ap isRuleByte (c .match .keys7)))
-    (λ c. sym (ap isRuleByte (c .match .keys8)))
+    (λ c. sym (ap isRuleByte (c .match .keys1) ∙ rw (reserved-foreign 48 tt)))
+    (λ c. sym (ap isRuleByte (c .match .keys2) ∙ rw (reserved-foreign 49 tt)))
+    (λ c. sym (ap isRuleByte (c .match .keys3) ∙ rw (reserved-foreign 124 tt)))
+    (λ c. sym (ap isRuleByte (c .match .keys4) ∙ rw (reserved-foreign 38 tt)))
+    (λ c. sym (ap isRuleByte (c .match .keys5) ∙ rw (reserved-foreign 33 tt)))
+    (λ c. sym (ap isRuleByte (c .match .keys6) ∙ rw (reserved-foreign 42 tt)))
+    (λ c. sym (ap isRuleByte (c .match .keys7) ∙ rw (reserved-foreign 40 tt)))
+    (λ c. sym (ap isRuleByte (c .match .keys8) ∙ rw (reserved-foreign 41 tt)))
     (λ c.
     let n = c .before .match .rest in
     simp (
