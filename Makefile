@@ -29,14 +29,14 @@ test:
 prove:
 	rt check
 
+times:
+	@scripts/check_times $(BEFORE)
+
 library:
 	@rt staticlib wuzlevor | grep --line-buffered -E '^rt:|error'
 	@echo "archive: $(CURDIR)/target/staticlib/libwuzlevor.a"
 	@echo "header:  $(CURDIR)/include/wuzlevor.h"
 	@echo "link:    cc -I $(CURDIR)/include YOURS.c $(CURDIR)/target/staticlib/libwuzlevor.a"
-
-times:
-	@scripts/check_times $(BEFORE)
 
 PREFIX ?= /usr/local
 install: library

@@ -13,7 +13,8 @@ enum { MOST_JOB = 4096, COLUMNS = 64, SCANS = 50, OTHER_LETTER = 2 /* foma's num
 /* A wild rule is ended by the memory it may have, if not by the bench's time limit. */
 static const rlim_t MOST_MEMORY = (rlim_t)2 << 30;
 
-/* The automaton as a table: where each state leads by each letter, or -1. A letter's column is the low six bits of its byte. */
+/* The automaton as a table: where each state leads by each letter, or -1. A letter's column is the low six bits of its byte,
+ * which no two letters share. */
 struct table {
     int start;
     int (*next)[COLUMNS];

@@ -1,4 +1,4 @@
-//! The unproved judges on cases that are known: the days of document 01, the edges of a row, and the program's one whole case.
+//! The unproved judges on cases that are known: the days of document 01, letters in both cases, the edges of a row, and the program's one whole case.
 
 use bench::blocks::empty_table;
 use bench::judge::Judge;
@@ -26,7 +26,6 @@ fn known_days_with_a_count() {
         ("a*", "aa", 6, 18),
         ("a&a", "a", 1, 9),
         ("1*", "", 1, 4),
-        ("!A", "A", 2, 7),
     ];
     for (name, judge) in JUDGES {
         for (rule, word, found, count) in days {
@@ -44,13 +43,20 @@ fn known_days_without_a_count() {
         ("!ab", "ab", 1),
         ("!(ab)", "ab", 5),
         ("!a*", "aa", 0),
-        ("aA", "aAaa", 1),
-        ("!a", "aA", 5),
     ];
     for (name, judge) in JUDGES {
         for (rule, word, found) in days {
             let told = judged(judge, rule, word);
             assert_eq!(told.0, found, "{name}: {rule} on {word}");
+        }
+    }
+}
+
+#[test]
+fn letters_in_both_cases() {
+    for (name, judge) in JUDGES {
+        for (rule, word, found) in [("!A", "A", 2), ("aA", "aAaa", 1), ("!a", "aA", 5)] {
+            assert_eq!(judged(judge, rule, word).0, found, "{name}: {rule} on {word}");
         }
     }
 }

@@ -17,7 +17,7 @@ const SHORT: [&[u8]; 37] = [
     b"E\t0\ta\nE\t0\tA\nE\t0\tz\nE\t0\tZ\n",
     // Tags stand as letters, and are tags by their place alone.
     b"E\t0\tE\n",
-    b"E\t0\tR\nE\t1\tS\nE\t1\tX\nE\t2\tH\nE\t2\tD\nE\t3\te\n",
+    b"E\t0\tR\nE\t1\tS\nE\t1\tX\nE\t2\tH\nE\t2\tE\nE\t3\te\n",
     b"E\tE\tE\n",
     b"A\t0\tE\n",
     // The second falls.
@@ -27,6 +27,7 @@ const SHORT: [&[u8]; 37] = [
     b"E\t1\ta\nE\t5\tb\nE\t4\tc\n",
     b"E\t5\ta\nE\t1\tb\nE\t3\tc\n",
     b"E\t65536\ta\nE\t1\tb\n",
+    // A capital is no fault of the form: 13, not 12.
     b"E\t86400\tA\n",
     b"E\t5\ta\nE\t4\tA\n",
     // In one line 12 comes before 13.

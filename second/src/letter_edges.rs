@@ -1,17 +1,18 @@
-//! The places where an event can stand beside something else, for any byte to be tried there.
+//! The places where an event can stand beside something else, so that any byte can be tried there,
+//! and the bytes at the ends of the two runs of letters.
 
-/// The bytes at the ends of the two runs of letters, beside them and between them.
+/// The first and the last letter of both runs, and the bytes beside and between them.
 pub const ENDS: [u8; 12] = *b"@AZ[\\]^_`az{";
 
-/// What stands for the byte in the texts below; no rule, word or day has it.
+/// What stands for the byte in the texts below, which have no other use for it.
 const BLANK: u8 = b'?';
 
-/// The places in a rule.
+/// The places in a rule: at both ends of a text and within it, and at every side of an operator.
 const RULES: [&str; 10] = [
     "?b", "a?b", "a?", "!?", "?|a", "a|?", "?&a", "a&?", "(?)", "?*",
 ];
 
-/// The places in a word.
+/// The places in a word: first, in the middle and last.
 const WORDS: [&str; 3] = ["?b", "a?b", "a?"];
 
 /// The places in a day: in the first line, in a middle one and in the last.
@@ -36,7 +37,7 @@ pub fn days(byte: u8) -> [Vec<u8>; 3] {
     DAYS.map(|text| filled(text, byte))
 }
 
-/// A text with the byte in the place that was left blank.
+/// A text with the byte where it has a blank.
 fn filled(text: &str, byte: u8) -> Vec<u8> {
     let with_byte = |other: u8| if other == BLANK { byte } else { other };
     text.bytes().map(with_byte).collect()

@@ -1,4 +1,5 @@
-//! The alphabet and the bounds of document 01, each in one place so that a change is one line.
+//! The alphabet and the bounds of documents 01 and 02, each in one place so that a change is one
+//! line.
 
 /// The events, which are also the letters of a rule.
 pub const LETTERS: &[u8; 52] = b"abcdefghijklmnopqrstuvwxyzABCDEFGHIJKLMNOPQRSTUVWXYZ";

@@ -133,7 +133,7 @@ fn a_job_takes_the_letters_in_both_its_parts() {
 }
 
 #[test]
-fn the_edge_that_was_refused_is_a_rule_of_one_node() {
+fn a_capital_alone_is_a_rule_of_one_node() {
     let rule = read(b"A").unwrap();
     assert_eq!((rule.m(), rule.k()), (1, 0));
     assert_eq!(rule.nodes[0].kind, Kind::Letter(65));
@@ -142,7 +142,7 @@ fn the_edge_that_was_refused_is_a_rule_of_one_node() {
 
 #[test]
 fn tags_are_tags_by_their_place() {
-    for tag in *b"ERSXHDG" {
+    for tag in *b"REHSX" {
         let (day, _) = with_byte("E\t0\t?\n", tag);
         let mut letters = [0];
         assert_eq!(day::read(&day, &mut letters, &mut [9]), Ok(1));

@@ -12,7 +12,7 @@ const MOST_STATES: usize = 2 * MOST_NODES;
 pub struct Automaton {
     /// For each state the states that free moves lead to from it, itself included.
     pub closed: [States; MOST_STATES],
-    /// The entries of each letter, by the low six bits of its byte.
+    /// The entries of each letter, by the low six bits of its byte, which no two letters share.
     pub letters: [States; 64],
     /// The entries of the special nodes.
     pub specials: States,

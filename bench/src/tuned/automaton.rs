@@ -13,7 +13,7 @@ pub struct Automaton {
     within: [States; MOST_NODES],
     /// For each node the states that free moves lead to from its exit, itself included.
     after: [States; MOST_NODES],
-    /// The nodes of each letter, by the low six bits of its byte.
+    /// The nodes of each letter, by the low six bits of its byte, which no two letters share.
     pub letters: [u64; 64],
     /// The special nodes.
     pub specials: u64,

@@ -1,7 +1,9 @@
 -- The seconds that document 01 names as edges, and letters at the ends of the two runs, by computation. Assumes nothing.
+use Prim.Native.Nat.{ℕ}
 use Prim.Native.String.{String}
 use mathlib.Core.Path.{_≡_, refl}
 use mathlib.Core.List.{[], _∷_, map}
+use lib.ListN.{replicate}
 use Rattle.event.specs.Event.{isEvent}
 use Rattle.event.specs.Leading.{leading}
 use Rattle.event.specs.Text.{bytes}
@@ -15,8 +17,16 @@ seconds : map (λ (s : String). dayAnswer (bytes s) (7 ∷ []) (9 ∷ [])) ("E\t
 unfolding dayAnswer dayLines lineOf leading isEvent
 seconds = refl
 
--- 02 a): "An event is now one of 52 letters, in rules, words and day lines": `E` too, and no byte beside the letters
-letters : map (λ (s : String). dayAnswer (bytes s) (7 ∷ []) (9 ∷ [])) ("E\t0\tE\n" ∷ "E\t0\tZ\n" ∷ "E\t0\t[\n" ∷ [])
-    ≡ values 0 0 1 (69 ∷ []) (0 ∷ []) ∷ values 0 0 1 (90 ∷ []) (0 ∷ []) ∷ values 12 1 0 (7 ∷ []) (9 ∷ []) ∷ []
+-- 02 a): "An event is now one of 52 letters, in .. day lines": the ends of the two runs, and `E`, which is a tag by its place alone
+letters : map (λ (s : String). dayAnswer (bytes s) (7 ∷ []) (9 ∷ []))
+    ("E\t0\tA\n" ∷ "E\t0\tZ\n" ∷ "E\t0\ta\n" ∷ "E\t0\tz\n" ∷ "E\t0\tE\n" ∷ [])
+    ≡ map (λ (c : ℕ). values 0 0 1 (c ∷ []) (0 ∷ [])) (65 ∷ 90 ∷ 97 ∷ 122 ∷ 69 ∷ [])
 unfolding dayAnswer dayLines lineOf leading isEvent
 letters = refl
+
+-- 02 a): 12 reads "the wider alphabet": the bytes beside the two runs
+beside-letters : map (λ (s : String). dayAnswer (bytes s) (7 ∷ []) (9 ∷ []))
+    ("E\t0\t@\n" ∷ "E\t0\t[\n" ∷ "E\t0\t`\n" ∷ "E\t0\t{\n" ∷ [])
+    ≡ replicate 4 (values 12 1 0 (7 ∷ []) (9 ∷ []))
+unfolding dayAnswer dayLines lineOf leading isEvent
+beside-letters = refl

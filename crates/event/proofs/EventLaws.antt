@@ -1,4 +1,4 @@
--- The law of events for the crates above: what no event is, whichever letters the events are. Assumes nothing.
+-- The law of events for the crates above, whichever letters the events are: none is a reserved number, and each fits a byte. Assumes nothing.
 use Prim.Native.Nat.{ℕ, _<_}
 use native.Mathlib.Omega.{arith}
 use mathlib.Core.Path.{_≡_, refl}
@@ -7,12 +7,8 @@ use mathlib.Core.Bool.{Bool, true, false, _&&_, _||_}
 use lib.Dec.{T, leb, leb→le, eqb}
 use borrow.Author.Tests.{ne-eqb, eqb-true}
 use Rattle.event.specs.Event.{isEvent}
+use Rattle.event.specs.Letters.{isReserved}
 use Rattle.event.proofs.Tests.{and-split, or-split, of-T}
-
--- the numbers that stand for something else: all up to the digit `9`, that is the kinds of nodes, tab, newline, the digits and
--- the signs of a rule, and `|`
-abbrev pub isReserved : ℕ → Bool
-isReserved c = leb c 57 || eqb c 124
 
 -- the letters lie between the digits and `|`
 letters-between : (b : ℕ) → T (isEvent b) → (57 < b) × (b < 124)
@@ -31,6 +27,7 @@ letters-between b h = go (or-split (leb 65 b && leb b 90) (leb 97 b && leb b 122
         let u = leb→le b 122 (p .1) in
         omega arith
 
+-- an event is no operator, digit or parenthesis
 pub event-apart : (b c : ℕ) → T (isEvent b) → T (isReserved c) → b ≡ c → ⊥
 event-apart b c h r e =
     let w = letters-between b h in
@@ -40,7 +37,7 @@ event-apart b c h r e =
     go (inl x) w = let l = leb→le c 57 x in omega arith
     go (inr x) w = let l = eqb-true c 124 (of-T (eqb c 124) x) in omega arith
 
--- an event is no operator, digit or parenthesis
+-- the same as a test
 pub event-not : (b c : ℕ) → T (isEvent b) → T (isReserved c) → eqb b c ≡ false
 event-not b c h r = ne-eqb b c (event-apart b c h r)
 

@@ -4,7 +4,7 @@ use mathlib.Core.List.{List, [], _∷_}
 use Prim.Native.Nat.{ℕ}
 use lib.Dec.{T, leb}
 
--- 02 a): "An event is now one of 52 letters, in rules, words and day lines": the byte of one of A to Z or of a to z.
+-- 02 a): "An event is now one of 52 letters": 01's "one byte, a to z", and "A to Z" of 02 a).
 unfoldable pub isEvent : ℕ → Bool
 isEvent b = (leb 65 b && leb b 90) || (leb 97 b && leb b 122)
 

@@ -23,8 +23,8 @@ use Rattle.matcher.specs.declared.Fit.the-variants as fit
 abbrev pub foreignAt : Word → ℕ
 foreignAt w = leading isEvent w
 
--- 01, Judge: "7: word over 255. 8: a byte outside a to z; place is the first one's offset. 9: table too short."; of 8, 02 a) has "the wider
--- alphabet".
+-- 01, Judge: "7: word over 255. 8: a byte outside a to z; place is the first one's offset. 9: table too short."; 02 a): 8 reads
+-- "the wider alphabet".
 -- Of a rule's k, a word and the table at entry; accepted where nothing refuses them.
 unfoldable pub fitAnswer : ℕ → Word → List ℕ → Verdict
 fitAnswer k w old =

@@ -1,4 +1,4 @@
--- Complements of words with capitals, by computation. Assumes nothing.
+-- The complement of a letter, asked of words with capitals, by computation. Assumes nothing.
 use Prim.Native.String.{String}
 use mathlib.Core.Path.{_≡_, refl}
 use mathlib.Core.List.{[], _∷_, map}

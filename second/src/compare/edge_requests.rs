@@ -31,6 +31,7 @@ pub fn requests() -> Vec<Request> {
     let jobs = job_edges::jobs().into_iter();
     let jobs = jobs.chain(job_edges::readers_jobs()).flat_map(with_outs);
     requests.extend(jobs.flat_map(in_all_dirt));
+    // So many that each comes in ones or in noise alone, by turns.
     let calls = (0..=255).flat_map(with_byte).enumerate();
     requests.extend(calls.map(|(index, asked)| in_all_dirt(asked)[index % 2].clone()));
     requests.extend(too_short_to_answer());

@@ -11,14 +11,13 @@ use crate::{day, job};
 /// The bytes between the capitals and the small letters, which are no letters.
 const BETWEEN: RangeInclusive<u8> = b'['..=b'`';
 
-/// What a case may show.
+/// What a case may show: a capital in something accepted, or a byte between the two runs of letters
+/// as what is refused.
 #[derive(Clone, Copy, Debug, PartialEq, Eq, PartialOrd, Ord)]
 pub enum Letters {
-    /// A capital stands in the rule, or in the word, or in the day, and all is accepted.
     CapitalInRule,
     CapitalInWord,
     CapitalInDay,
-    /// A byte between the two runs of letters is what the rule, the word or the day is refused for.
     BetweenInRule,
     BetweenInWord,
     BetweenInDay,
@@ -53,7 +52,7 @@ impl fmt::Display for Letters {
     }
 }
 
-/// What a call shows that should give such a number and place.
+/// What a call shows if such a number and place should come.
 pub fn shown(asked: &Asked, number: u32, place: usize) -> Vec<Letters> {
     let mut parts = Parts::default();
     match asked {
@@ -65,7 +64,7 @@ pub fn shown(asked: &Asked, number: u32, place: usize) -> Vec<Letters> {
     parts.shown(number, place)
 }
 
-/// What a job shows that should give such a number and place.
+/// What a job shows if such a number and place should come.
 pub fn shown_by_job(job: &[u8], number: u32, place: usize) -> Vec<Letters> {
     let mut parts = Parts::default();
     if let Ok((rule, day)) = job::split_job(job) {
@@ -83,29 +82,29 @@ struct Parts<'a> {
 }
 
 impl Parts<'_> {
-    /// What they show with such a number and place.
+    /// What they show if such a number and place should come.
     fn shown(&self, number: u32, place: usize) -> Vec<Letters> {
         const ACCEPTED: u32 = 0;
         const RULE_BYTE: u32 = Reason::RuleByte as u32;
         const WORD_BYTE: u32 = Reason::WordByte as u32;
         const LINE_FORM: u32 = Reason::LineForm as u32;
-        let only = |meets: bool, shown: Letters| meets.then_some(shown).into_iter().collect();
+        let if_met = |met: bool, shown: Letters| met.then_some(shown).into_iter().collect();
         match number {
             ACCEPTED => self.capitals(),
-            RULE_BYTE => only(is_between(self.rule[place]), Letters::BetweenInRule),
-            WORD_BYTE => only(is_between(self.word[place]), Letters::BetweenInWord),
-            LINE_FORM => only(has_letter_between(self.day, place), Letters::BetweenInDay),
+            RULE_BYTE => if_met(is_between(self.rule[place]), Letters::BetweenInRule),
+            WORD_BYTE => if_met(is_between(self.word[place]), Letters::BetweenInWord),
+            LINE_FORM => if_met(has_letter_between(self.day, place), Letters::BetweenInDay),
             _ => Vec::new(),
         }
     }
 
     /// In which parts a capital stands.
     fn capitals(&self) -> Vec<Letters> {
-        let in_days = day_letters(self.day);
+        let day_letters = day_letters(self.day);
         let parts = [
             (self.rule, Letters::CapitalInRule),
             (self.word, Letters::CapitalInWord),
-            (&in_days, Letters::CapitalInDay),
+            (&day_letters, Letters::CapitalInDay),
         ];
         let has_capital = |part: &[u8]| part.iter().any(u8::is_ascii_uppercase);
         let with_capital = parts.into_iter().filter(|(part, _)| has_capital(part));
@@ -118,7 +117,7 @@ fn is_between(byte: u8) -> bool {
     BETWEEN.contains(&byte)
 }
 
-/// The letters of an accepted day.
+/// The letters of an accepted day: each line has its letter just before its newline.
 fn day_letters(day: &[u8]) -> Vec<u8> {
     let lines = day.split_inclusive(|&byte| byte == b'\n');
     lines

@@ -40,7 +40,7 @@ fn place_of(
 }
 
 /// The same call, lent on.
-fn borrowed<'a>(call: &'a mut Call<'_>) -> Call<'a> {
+pub fn borrowed<'a>(call: &'a mut Call<'_>) -> Call<'a> {
     match call {
         Call::ReadRule {
             text,
@@ -80,7 +80,7 @@ fn borrowed<'a>(call: &'a mut Call<'_>) -> Call<'a> {
 }
 
 /// The answer of any call.
-fn answer<'a>(call: &'a mut Call<'_>) -> &'a mut [u64] {
+pub fn answer<'a>(call: &'a mut Call<'_>) -> &'a mut [u64] {
     match call {
         Call::ReadRule { answer, .. }
         | Call::ReadDay { answer, .. }

@@ -1,13 +1,10 @@
-//! What cases show of the letters, and that the edges find libraries with wrong letters.
+//! What cases show of the letters, and that the edges ask every byte wherever an event can stand.
 
 use std::collections::HashSet;
-use std::ops::RangeInclusive;
 
-use second::compare::call::{Call, Callee, Kind};
-use second::compare::check::check;
+use second::compare::call::{Callee, Kind};
 use second::compare::edge_requests::requests;
 use second::compare::letters::{shown, Letters};
-use second::compare::reference;
 use second::compare::request::{Asked, Request};
 use second::compare::run::Run;
 use second::job::split_job;
@@ -115,118 +112,10 @@ fn what_is_never_shown_is_a_failure() {
     assert_eq!(Callee::LIBRARY.map(count), [2, 2, 4, 4]);
 }
 
-/// A mistake that a library makes: what it takes a byte for that stands where an event can.
-type Mistake<'a> = &'a dyn Fn(u8) -> u8;
-
-/// The bytes of a rule or a word as the library takes them.
-fn taken(bytes: &[u8], mistake: Mistake) -> Vec<u8> {
-    bytes.iter().map(|&byte| mistake(byte)).collect()
-}
-
-/// The bytes of a day or a job as the library takes them: only what stands between a tab and a
-/// newline is changed.
-fn taken_lines(bytes: &[u8], mistake: Mistake) -> Vec<u8> {
-    let mut taken = bytes.to_vec();
-    for (at, part) in bytes.windows(3).enumerate() {
-        if let [b'\t', byte, b'\n'] = part {
-            taken[at + 1] = mistake(*byte);
-        }
-    }
-    taken
-}
-
-/// What a library does with a call that makes the mistake in it.
-fn done_wrong(call: Call, mistake: Mistake) -> u64 {
-    let number = match call {
-        Call::ReadRule {
-            text,
-            answer,
-            nodes,
-        } => reference::run(Call::ReadRule {
-            text: &taken(text, mistake),
-            answer,
-            nodes,
-        }),
-        Call::ReadDay {
-            file,
-            letters,
-            seconds,
-            answer,
-        } => reference::run(Call::ReadDay {
-            file: &taken_lines(file, mistake),
-            letters,
-            seconds,
-            answer,
-        }),
-        Call::Judge {
-            rule,
-            word,
-            limit,
-            table,
-            answer,
-        } => reference::run(Call::Judge {
-            rule: &taken(rule, mistake),
-            word: &taken(word, mistake),
-            limit,
-            table,
-            answer,
-        }),
-        Call::RunJob { job, out, answer } => reference::run(Call::RunJob {
-            job: &taken_lines(job, mistake),
-            out,
-            answer,
-        }),
-    };
-    reference::returned(number)
-}
-
-/// Whether a request is short; no other has to be asked to find a wrong letter.
-fn is_short(request: &Request) -> bool {
-    let bytes = match &request.asked {
-        Asked::Rule { text, .. } => text.len(),
-        Asked::Day { file, .. } => file.len(),
-        Asked::Judge { rule, word, .. } => rule.len() + word.len(),
-        Asked::Job { job, .. } => job.len(),
-    };
-    bytes < 40
-}
-
-/// The callees in which the edges find no difference to a library that makes the mistake.
-fn not_found(edges: &[Request], mistake: Mistake) -> Vec<Callee> {
-    let library = |_: &str, call: Call| done_wrong(call, mistake);
-    let differs = |request: &&Request| check(&library, "a case", request).difference.is_some();
-    let found = |callee: &Callee| {
-        let mut edges = edges.iter().filter(|edge| edge.asked.callee() == *callee);
-        edges.any(|request| differs(&request))
-    };
-    let callees = Callee::LIBRARY.into_iter();
-    callees.filter(|callee| !found(callee)).collect()
-}
-
-#[test]
-fn the_edges_find_a_library_with_wrong_letters() {
-    let edges: Vec<Request> = requests().into_iter().filter(is_short).collect();
-    let no_letters = [65..=90, 97..=122, 65..=65, 90..=90, 97..=97, 122..=122];
-    let letters = [91..=96, 64..=64, 91..=91, 96..=96, 123..=123];
-    let with = |bytes: RangeInclusive<u8>, other: u8| {
-        move |byte: u8| if bytes.contains(&byte) { other } else { byte }
-    };
-    for bytes in no_letters {
-        let missed = not_found(&edges, &with(bytes.clone(), b'_'));
-        assert_eq!(missed, [], "{bytes:?} are no letters");
-    }
-    for bytes in letters {
-        let missed = not_found(&edges, &with(bytes.clone(), b'q'));
-        assert_eq!(missed, [], "{bytes:?} are letters");
-    }
-    // One case is taken for the other.
-    assert_eq!(not_found(&edges, &|byte| byte.to_ascii_lowercase()), []);
-    assert_eq!(not_found(&edges, &|byte| byte.to_ascii_uppercase()), []);
-    assert_eq!(not_found(&edges, &|byte| byte), Callee::LIBRARY);
-}
-
 /// Places in a rule, in a word and in a day; the question mark stands for the byte.
-const RULE_PLACES: [&str; 9] = ["?", "?b", "a?b", "a?", "!?", "a|?", "a&?", "(?)", "?*"];
+const RULE_PLACES: [&str; 11] = [
+    "?", "?b", "a?b", "a?", "!?", "?|a", "a|?", "?&a", "a&?", "(?)", "?*",
+];
 const WORD_PLACES: [&str; 4] = ["?", "?b", "a?b", "a?"];
 const DAY_PLACES: [&str; 4] = [
     "E\t5\t?\n",

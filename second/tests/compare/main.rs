@@ -11,3 +11,4 @@ mod program;
 mod reference;
 mod scripts;
 mod trouble;
+mod wrong_letters;

@@ -419,8 +419,8 @@ fn tags_are_tags_by_their_place() {
     let good: [(&[u8], &str); 2] = [
         (b"E\t0\tE\n", "1\t69,129\t0,100001,100002"),
         (
-            b"E\t0\tR\nE\t1\tS\nE\t1\tX\nE\t2\tH\nE\t2\tD\nE\t3\te\n",
-            "6\t82,83,88,72,68,101,134\t0,1,1,2,2,3,100006,100007",
+            b"E\t0\tR\nE\t1\tS\nE\t1\tX\nE\t2\tH\nE\t2\tE\nE\t3\te\n",
+            "6\t82,83,88,72,69,101,134\t0,1,1,2,2,3,100006,100007",
         ),
     ];
     for (day, rest) in good {

@@ -8,8 +8,8 @@ use second::rule::{read, Kind, Rule};
 use crate::judge::{calls, check_answer, Answer, Call};
 use crate::{answer_lines, cases, stream};
 
-/// The seeds that the tests below draw from.
-const SEEDS: [usize; 6] = [1, 2, 4, 6, 7, 8];
+/// The seeds that the tests below draw from, so many that the rarest number, 1, comes a few times.
+const SEEDS: [usize; 8] = [1, 2, 3, 4, 5, 6, 7, 8];
 
 /// The command for a stream as long as the limit lets it be.
 fn longest(seed: usize) -> String {
