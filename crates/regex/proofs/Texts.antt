@@ -3,7 +3,7 @@ use Prim.Native.Nat.{ℕ, _<_}
 use native.Mathlib.Omega.{arith}
 use mathlib.Core.Path.{_≡_, refl, sym, ap, _∙_}
 use mathlib.Core.List.{List, [], _∷_, _++_, append-assoc}
-use mathlib.Core.Bool.{Bool, true, false}
+use mathlib.Core.Bool.{true, false, true≢false}
 use lib.ListN.{length, getD}
 use lib.Dec.{T, eqb}
 use borrow.Author.Tests.{ne-eqb}
@@ -40,10 +40,9 @@ begins (atom-group r) x = refl
 
 -- a byte with which an operand can begin is no other sign
 pub start-not : (b c : ℕ) → isStart b ≡ true → isStart c ≡ false → eqb b c ≡ false
-start-not b c h g = ne-eqb b c (λ e. let z : _≡_ {A = Bool} true false = sym h ∙ ap isStart e
-    ∙ g in let n : _≡_ {A = ℕ} 0 1 = cc in omega arith)
+start-not b c h g = ne-eqb b c (λ e. true≢false (sym h ∙ ap isStart e ∙ g))
 
 -- nor does one begin where a text has ended
 pub start-some : (s : List ℕ) → isStart (getD s 0 0) ≡ true → 0 < length s
-start-some [] h = let z : _≡_ {A = Bool} true false = sym h ∙ reserved-foreign 0 tt in let n : _≡_ {A = ℕ} 0 1 = cc in omega arith
+start-some [] h = absurd (true≢false (sym h ∙ reserved-foreign 0 tt))
 start-some (b ∷ s) h = omega arith
