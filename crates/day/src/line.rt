@@ -1,8 +1,9 @@
 // One line of a day file.
 use event::is_event;
+use event::text::byte_at;
 ghost use mathlib.Core.Path.{_≡_};
 ghost use Prim.Native.Nat.{_≤_};
-ghost use lib.ListN.{length, getD};
+ghost use lib.ListN.{length};
 ghost use Rattle.decimal.specs.Numeral.{isDigit, valueOf, AllDigits};
 ghost use Rattle.day.specs.DayLines.{digitCount, isSecond, lineOf};
 
@@ -17,13 +18,6 @@ const NEWLINE: u8 = b'\n';
 pub enum LineRead {
     Formed(u32, u8, usize),
     Malformed,
-}
-
-// The byte at an index; 0, which no line has, where the text has ended.
-fn byte_at(s: &[u8], i: usize) -> u8
-    ensures { λ r. ⌜ r ≡ getD (now (s .entry)) i 0 ⌝ }
-{
-    if i < s.len() { s[i] } else { 0 }
 }
 
 fn is_digit(b: u8) -> bool

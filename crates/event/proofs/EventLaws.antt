@@ -3,7 +3,7 @@ use Prim.Native.Nat.{ℕ, _≤_, _<_}
 use native.Mathlib.Omega.{arith}
 use mathlib.Core.Path.{_≡_, refl}
 use mathlib.Core.Logic.{⊎-elim}
-use mathlib.Core.Bool.{false, not, _&&_}
+use mathlib.Core.Bool.{false, not, _&&_, _||_}
 use lib.Dec.{T, leb, leb→le, eqb, not-T}
 use borrow.Author.Tests.{ne-eqb, eqb-true, not-true}
 use Rattle.event.specs.Event.{isEvent}
@@ -16,18 +16,22 @@ in-run l u b h =
     let p = and-split (leb l b) (leb b u) h in
     (leb→le l b (p .0), leb→le b u (p .1))
 
--- the letters lie between the digits and `|`
-letters-between : (b : ℕ) → T (isEvent b) → (57 < b) × (b < 124)
+-- the letters lie between `>` and `|`
+letters-between : (b : ℕ) → T (isEvent b) → (62 < b) × (b < 124)
 unfolding isEvent
 letters-between b h =
     ⊎-elim (λ x. omega (arith, in-run 65 90 b x)) (λ x. omega (arith, in-run 97 122 b x))
     (or-split (leb 65 b && leb b 90) (leb 97 b && leb b 122) h)
 
--- an event is no operator, digit or parenthesis
+-- an event is no operator, digit, parenthesis or angle bracket
 pub event-apart : (b c : ℕ) → T (isEvent b) → T (isReserved c) → b ≡ c → ⊥
 event-apart b c h r e =
     let w = letters-between b h in
-    ⊎-elim (λ x. omega (arith, leb→le c 57 x)) (λ x. omega (arith, eqb-true c 124 (of-T (eqb c 124) x))) (or-split (leb c 57) (eqb c 124) r)
+    let same : (d : ℕ) → T (eqb c d) → c ≡ d = λ d x. eqb-true c d (of-T (eqb c d) x) in
+    ⊎-elim (λ y.
+    ⊎-elim (λ z. ⊎-elim (λ x. omega (arith, leb→le c 57 x)) (λ x. omega (arith, same 124 x)) (or-split (leb c 57) (eqb c 124) z))
+    (λ x. omega (arith, same 60 x)) (or-split (leb c 57 || eqb c 124) (eqb c 60) y))
+    (λ x. omega (arith, same 62 x)) (or-split (leb c 57 || eqb c 124 || eqb c 60) (eqb c 62) r)
 
 -- the same as a test
 pub event-not : (b c : ℕ) → T (isEvent b) → T (isReserved c) → eqb b c ≡ false

@@ -1,4 +1,6 @@
-// Events: the one test of the alphabet.
+// Events: the one test of the alphabet; and what the readers of texts share.
+pub mod text;
+
 ghost use mathlib.Core.Path.{_≡_};
 ghost use Rattle.event.specs.Event.{isEvent};
 

@@ -2,7 +2,7 @@
 use Prim.Native.Nat.{ℕ, suc, _+_, _-_, _≤_, _<_}
 use native.Mathlib.Omega.{arith}
 use mathlib.Core.Path.{_≡_, refl, sym, ap, _∙_}
-use mathlib.Core.Bool.{Bool, true, false, cond, not, _&&_}
+use mathlib.Core.Bool.{Bool, true, false, cond, _&&_}
 use mathlib.Core.Logic.{⊎-elim}
 use mathlib.Core.List.{List}
 use lib.Dec.{eqb, ltb}
@@ -15,8 +15,9 @@ use Rattle.event.proofs.LeadingLaws.{leading-found}
 use Rattle.event.proofs.Tails.{tail, tail-is}
 use Rattle.event.proofs.Tests.{T-of, of-T, and-split}
 use Rattle.rule.specs.RuleComputed.{ruleAnswer}
+use Rattle.event.specs.Text.{notNewline}
 use Rattle.job.specs.JobAnswer.{refusal}
-use Rattle.job.specs.JobComputed.{notNewline, ruleLength, isJob, ruleOf, dayOf, afterRule, jobResult, written, jobAnswer}
+use Rattle.job.specs.JobComputed.{ruleLength, isJob, ruleOf, dayOf, afterRule, jobResult, written, jobAnswer}
 
 -- where the first line ends; the length where it is not `R`, tab, bytes up to a newline
 abbrev pub lineEnd : List ℕ → ℕ

@@ -12,7 +12,8 @@ use Rattle.event.specs.Leading.{leading}
 use Rattle.event.proofs.LeadingLaws.{leading-found, leading-is}
 use Rattle.event.proofs.Tails.{rest-at}
 use Rattle.event.proofs.Tests.{T-of, of-T, and-split}
-use Rattle.job.specs.JobComputed.{notNewline, ruleLength, isJob, ruleOf, dayOf}
+use Rattle.event.specs.Text.{notNewline}
+use Rattle.job.specs.JobComputed.{ruleLength, isJob, ruleOf, dayOf}
 use Rattle.job.specs.JobMeaning.{Parted}
 
 newline : (b : ℕ) → notNewline b ≡ false → b ≡ 10

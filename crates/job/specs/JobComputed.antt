@@ -2,11 +2,12 @@
 -- That `jobAnswer` is the one answer which has `JobMeaning` is `answer-means` in proofs/Answered and `answer-is` in proofs/Determined;
 -- `jobText` is tied to it by `call-text` in proofs/Results.
 use Prim.Native.Nat.{ℕ, suc, _+_, _*_}
-use mathlib.Core.Bool.{Bool, cond, not, _&&_}
+use mathlib.Core.Bool.{Bool, cond, _&&_}
 use mathlib.Core.List.{List, []}
 use lib.Dec.{eqb, ltb}
 use lib.ListN.{length, getD, take, drop, replicate}
 use Rattle.event.specs.Leading.{leading}
+use Rattle.event.specs.Text.{notNewline}
 use Rattle.rule.specs.RuleAnswer.{RuleAnswer}
 use Rattle.rule.specs.RuleComputed.{ruleAnswer}
 use Rattle.day.specs.DayAnswer.{DayAnswer}
@@ -20,9 +21,6 @@ use Rattle.listing.specs.Marked.{listing}
 use Rattle.job.specs.JobAnswer.{JobAnswer, refusal, acceptance}
 
 -- ---- the job's first line
-abbrev pub notNewline : ℕ → Bool
-notNewline b = not (eqb b 10)
-
 -- how many bytes stand between the first two and the newline
 abbrev pub ruleLength : List ℕ → ℕ
 ruleLength s = leading notNewline (drop 2 s)

@@ -1,24 +1,10 @@
 // The job's first line.
+use event::text::find_newline;
 ghost use mathlib.Core.Path.{_≡_};
 ghost use Prim.Native.Nat.{_+_};
 ghost use mathlib.Core.Bool.{cond};
 ghost use lib.ListN.{length};
-ghost use Rattle.event.specs.Leading.{leading};
-ghost use Rattle.job.specs.JobComputed.{notNewline, isJob, ruleLength};
-
-// The offset of the first newline, or the length where there is none.
-fn find_newline(s: &[u8]) -> usize
-    ensures { λ r. ⌜ r ≡ leading notNewline (now (s .entry)) ⌝ }
-{
-    let mut i = 0;
-    while i < s.len() {
-        if s[i] == b'\n' {
-            return i;
-        }
-        i += 1;
-    }
-    i
-}
+ghost use Rattle.job.specs.JobComputed.{isJob, ruleLength};
 
 // The offset of the newline that ends the first line, or the length where that is not `R`, tab, bytes up to a newline.
 pub fn line_end(job: &[u8]) -> usize

@@ -3,7 +3,7 @@ use native.Mathlib.Omega.{arith}
 use borrow.Author.Needs.{needs}
 use Rattle.event.proofs.Tails.{tail, tail-length}
 use Rattle.event.proofs.LeadingLaws.{leading-found}
-use Rattle.job.specs.JobComputed.{notNewline}
+use Rattle.event.specs.Text.{notNewline}
 use Rattle.job.proofs.FirstLine.{no-room, no-tag, no-tab, line-end}
 use Rattle.job.proofs.first_line.line_end.Statement.{statement}
 use Rattle.job.proofs.first_line.line_end.Tie as tie

@@ -6,11 +6,11 @@ use mathlib.Core.Bool.{not}
 use lib.ListN.{length, getD, drop}
 use borrow.Author.Needs.{needs}
 use borrow.Author.Tests.{eq-eqb, ne-eqb}
 use Rattle.event.specs.Leading.{leading}
 use Rattle.event.proofs.LeadingLaws.{leading-on, leading-here, leading-end}
-use Rattle.job.specs.JobComputed.{notNewline}
-use Rattle.job.proofs.first_line.find_newline.Statement.{statement}
-use Rattle.job.proofs.first_line.find_newline.Tie as tie
+use Rattle.event.specs.Text.{notNewline}
+use Rattle.event.proofs.text.find_newline.Statement.{statement}
+use Rattle.event.proofs.text.find_newline.Tie as tie
 
 -- the loop's invariant and measure
 abbrev inv : tie.InvT-loop

@@ -2,8 +2,8 @@
 use borrow.Author.Needs.{needs}
 use mathlib.Core.Path.{sym}
 use lib.ListN.{List·getD-eq-default}
-use Rattle.day.proofs.line.byte_at.Statement.{statement}
-use Rattle.day.proofs.line.byte_at.Tie as tie
+use Rattle.event.proofs.text.byte_at.Statement.{statement}
+use Rattle.event.proofs.text.byte_at.Tie as tie
 
 pub byte-at-spec : {M : Type 1} → statement M
 byte-at-spec =
