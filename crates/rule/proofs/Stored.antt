@@ -14,13 +14,14 @@ use Rattle.regex.specs.Tree.{Tree, size, records, nodeRecord}
 use Rattle.regex.specs.Grammar.{Level, Reads, alt-conj, alt-bar, conj-seq, conj-amp, seq-pre, seq-more}
 use Rattle.regex.specs.Grammar.{pre-post, pre-bang, post-atom, post-star, atom-letter, atom-empty, atom-epsilon, atom-group}
 use Rattle.regex.specs.Parse.{alt, measure}
+use Rattle.regex.specs.TreeOf.{treeOf}
 use Rattle.regex.specs.declared.Kind.{Kind}
 use Rattle.regex.specs.declared.Kind.the-variants.{Empty, Letter}
 use Rattle.regex.specs.declared.Node.{Node}
 use Rattle.regex.proofs.RecordLaws.{records-length}
 use Rattle.regex.proofs.Parses.{pushes, parse-whole}
 use Rattle.rule.specs.RuleAnswer.{unused}
-use Rattle.rule.specs.Reader.{State, Done, Records, add, kindOf, nodesOf, Written}
+use Rattle.rule.specs.Reader.{State, Done, Records, add, kindOf, nodesOf, Readable, nodesRead}
 
 -- ---- records pushed one after another
 -- the numbers of records
@@ -112,8 +113,11 @@ records-again atom-epsilon = refl
 records-again (atom-group r) = records-again r
 
 -- a buffer of zeros into which a sentence was read
-pub read-written : (s : List ℕ) (q : State) → Done alt s ((zeros 128, 0), 0) q → Written s (nodesOf (q .0 .0))
-read-written s q d t x h =
+pub read-written : (s : List ℕ) (q : State) → Done alt s ((zeros 128, 0), 0) q → Readable s → nodesOf (q .0 .0) ≡ nodesRead s
+read-written s q d r =
+    let t = treeOf s in
+    let x = r .sentence in
+    let h = r .few in
     let n = records-length t in
     let k = numbers-length (records t) in
     let z : 0 + length (numbers (records t)) ≡ 2 * size t = omega arith in

@@ -6,7 +6,8 @@ use mathlib.Core.Bool.{cond}
 use lib.ListN.{length, set}
 use lib.Dec.{ltb, eqb}
 use Rattle.regex.specs.KindNumber.{kindNumber}
-use Rattle.regex.specs.Tree.{Tree, size, records}
+use Rattle.regex.specs.Tree.{size, records}
+use Rattle.regex.specs.TreeOf.{treeOf}
 use Rattle.regex.specs.Grammar.{Alt, Reads}
 use Rattle.regex.specs.Parse.{Call, alt, altRest, conj, conjRest, seq, seqRest, pre, post, postRest, atom, measure, parse}
 use Rattle.regex.specs.declared.Kind.{Kind}
@@ -73,6 +74,11 @@ pub record Done (l : Call) (s : List ℕ) (r q : State) : Type 0 where
   pub high : q .1 ≤ r .1 + length s
   pub same : (f : ℕ) → measure l s ≤ f → q ≡ parse add f l s r
 
--- the 64 records that are written of a sentence of at most 64 nodes
-abbrev pub Written : List ℕ → List Node → Type 0
-Written s ns = (t : Tree) → Reads Alt 0 s t → size t ≤ 64 → ns ≡ records t ++ unused (64 - size t)
+-- a sentence of at most 64 nodes
+pub record Readable (s : List ℕ) : Type 0 where
+  pub sentence : Reads Alt 0 s (treeOf s)
+  pub few : size (treeOf s) ≤ 64
+
+-- the 64 records that are written of it
+abbrev pub nodesRead : List ℕ → List Node
+nodesRead s = records (treeOf s) ++ unused (64 - size (treeOf s))

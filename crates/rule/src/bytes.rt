@@ -27,7 +27,7 @@ pub fn is_start(b: u8) -> bool
 }
 
 // A byte that a rule text may have.
-fn is_rule_byte(b: u8) -> bool
+pub fn is_rule_byte(b: u8) -> bool
     ensures { λ r. ⌜ r ≡ isRuleByte b ⌝ }
 {
     match b {

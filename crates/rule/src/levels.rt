@@ -10,7 +10,7 @@ ghost use mathlib.Core.Path.{_≡_};
 ghost use Prim.Native.Nat.{_+_, _≤_, _<_};
 ghost use lib.ListN.{length, getD};
 ghost use Rattle.regex.specs.Parse.{leafKind, alt, conj, seq, pre, post, atom};
-ghost use Rattle.rule.specs.Reader.{at, pushed, Done, Written};
+ghost use Rattle.rule.specs.Reader.{at, pushed, Done, Readable, nodesRead};
 
 // How far the reader has come: the records written, and the offset at which the unread text begins.
 pub struct Reading {
@@ -20,8 +20,8 @@ pub struct Reading {
 
 // Reads a sentence into its records.
 pub fn read_text(text: &[u8]) -> [Node; 64]
-    requires { ⌜ length (now text) ≤ 255 ⌝ }
-    ensures { λ r. ⌜ Written (now (text .entry)) r ⌝ }
+    requires { ⌜ (length (now text) ≤ 255) × Readable (now text) ⌝ }
+    ensures { λ r. ⌜ r ≡ nodesRead (now (text .entry)) ⌝ }
 {
     let mut numbers = [0u64; 128];
     let start = Reading {

@@ -1,8 +1,8 @@
 // Rule texts: the reader that finds what a text is and writes the records of its nodes.
-mod bytes;
-mod levels;
+pub mod bytes;
+pub mod levels;
 mod records;
-mod scan;
+pub mod scan;
 
 use regex::Kind;
 use regex::Node;

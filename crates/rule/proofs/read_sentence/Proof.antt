@@ -2,7 +2,6 @@
 use native.Mathlib.Omega.{arith}
 use mathlib.Core.Path.{sym, _∙_}
 use borrow.Author.Tests.{lt-ltb, le-ltb}
-use borrow.Author.Needs.{needs}
 use Rattle.regex.specs.Tree.{size, specials}
 use Rattle.regex.specs.TreeOf.{treeOf}
 use Rattle.rule.proofs.Answered.{accepted-values, complete}
@@ -24,10 +23,12 @@ read-sentence-spec =
     let t = treeOf (b .args .text .now) in
     let w = complete (b .pre .1) in
     c .refused2 .ensures ∙ sym (simp (le-ltb 64 (size t) (omega arith), lt-ltb 7 (specials t) (omega arith))))
-    (λ c κs. search needs)
+    (λ c κs.
+    let b = c .before .before .before in
+    let w = complete (b .pre .1) in
+    (omega arith, record { sentence = w .0; few = omega arith }))
     (λ c.
     let b = c .before .before .before .before in
     let t = treeOf (b .args .text .now) in
     let w = complete (b .pre .1) in
-    let n = c .read-text .ensures t (w .0) (omega arith) in
-    accepted-values t (omega arith) (omega arith) n ∙ sym (simp (le-ltb 64 (size t) (omega arith), le-ltb 7 (specials t) (omega arith)))))
+    accepted-values t (omega arith) (omega arith) (c .read-text .ensures) ∙ sym (simp (le-ltb 64 (size t) (omega arith), le-ltb 7 (specials t) (omega arith)))))

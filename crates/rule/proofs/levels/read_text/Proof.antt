@@ -12,4 +12,4 @@ read-text-spec =
     (λ c κs. search needs)
     (λ c. search needs)
     (λ c κs. search needs)
-    (λ c t r h. c .nodes-of .ensures ∙ read-written _ _ (c .before .before .before .read-alt .ensures) t r h))
+    (λ c. c .nodes-of .ensures ∙ read-written _ _ (c .before .before .before .read-alt .ensures) (c .before .before .before .before .before .before .pre .1)))
