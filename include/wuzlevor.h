@@ -4,6 +4,9 @@
  * 1 (the empty word), | (or), & (and), ! (not: all other words of letters), * (any number of times) and parentheses; two rules side by side
  * are one after the other. From loosest to tightest: |, &, side by side, ! in front, * behind; what has two sides groups from the left.
  * A rule's nodes are its letters, 0s, 1s and operators, "side by side" included.
+ * A rule file has 1 to 16 lines: R, tab, name, tab, rule, newline. A name is 1 to 12 letters a to z. In a rule of a file <name> stands for
+ * the rule of the line above that has this name, in parentheses and with its own names replaced; its nodes and their offsets are those of
+ * the text after replacement. In the rule of a call that takes no rule file, < and > are bytes that no rule may have.
  * A day file has a line for each event: E, tab, the second of the day in decimal (1 to 5 digits, no leading zero but 0 itself), tab, the
  * event's letter, newline. A job is a line R, tab, rule, newline, and then a day file.
  * Span (i, j) of a word or a day of n events, 0 <= i <= j <= n, is the events after the first i up to and including the j-th.
@@ -14,8 +17,8 @@
  * another. The calls have run in threads of 512 KiB of stack; no bound of it is proved.
  *
  * Answers. Every call returns its number, 0 where it accepts, and writes the first elements of `answer`: that number, place, found, count,
- * and then values of its own. What follows them in `answer` is not touched. If `answer`, or `nodes` of wuz_read_rule, is shorter than the
- * call asks for, the call returns WUZ_UNANSWERED and writes nothing: no buffer changes, `answer` included.
+ * and then values of its own. What follows them in `answer` is not touched. If `answer`, `nodes` or `lines` is shorter than the call asks
+ * for, the call returns WUZ_UNANSWERED and writes nothing: no buffer changes, `answer` included.
  *
  * Numbers. 0 is acceptance. On a refusal place, found, count and the call's own values are 0 unless said here, and no buffer but
  * `answer` changes, except the table on 10.
@@ -29,13 +32,20 @@
  *    4  it is no sentence, which is a text formed as above; place: the length of its longest beginning that some sentence also has
  *    5  it has over 64 nodes
  *    6  it has over 7 nodes & and !
- *   then the day: 11; then its lines in turn, and the first bad line is told, in a line 14, then 12, then 13; 15 last
+ *   or a rule file: its lines in turn, and the first bad line is told, whatever the last line uses; place is always the line, from 1; in a
+ *   line the first of these that fits, 19, 16 and 18, and then its rule: 1, 2 (of the bytes as written), 3, 4, 17, 5, 6
+ *   16  it is not of the form, its newline included; or the file is empty, place: 1
+ *   17  its rule has a <name> that no line above has; 4 is judged before, with each <name> as a rule in parentheses, whatever it stands for,
+ *       and a < or > that belongs to no <name> is 4
+ *   18  a line above has its name
+ *   19  it is a 17th line, whatever stands in it; place: 17
+ *   or the day, of a job after its rule: 11; then its lines in turn, the first bad line is told, in a line 14, then 12, then 13; 15 last
  *   11  the file is over 2,550 bytes
  *   12  a line is not of the form; place: the line, from 1
  *   13  a second is over 86,399 or below the line before; place: the line
  *   14  a 256th line has begun, whatever stands in it; place: 256
  *   15  `letters` or `seconds` is shorter than the day; of wuz_run_job, after all else: `out` is shorter than the text
- *   or, for wuz_judge, after the rule: the first of these that fits
+ *   or, for wuz_judge and wuz_judge_rule_file, after the rule or the file: the first of these that fits
  *    7  the word is over 255 events
  *    8  it has a byte that is no letter; place: the offset of the first one
  *    9  the table has fewer numbers than are needed
@@ -51,12 +61,16 @@
 extern "C" {
 #endif
 
-/* The elements that each call writes to its answer, and those that `nodes` must have. */
+/* The elements that each call writes to its answer (that of wuz_judge_rule_file is wuz_judge's), and those that `nodes` and `lines` must
+ * have. */
 #define WUZ_RULE_ANSWER 6
+#define WUZ_RULE_FILE_ANSWER 5
 #define WUZ_DAY_ANSWER 5
 #define WUZ_JUDGE_ANSWER 4
 #define WUZ_JOB_ANSWER 5
 #define WUZ_NODES 128
+#define WUZ_RULE_FILE_NODES 2048
+#define WUZ_LINES 32
 
 /* Returned by a call that has no room for its answer; no number of the table above. */
 #define WUZ_UNANSWERED UINT64_MAX
@@ -74,6 +88,15 @@ extern "C" {
  * Numbers: 0 to 6. */
 uint64_t wuz_read_rule(const uint8_t *text, size_t text_len, uint64_t *answer, size_t answer_len, uint64_t *nodes, size_t nodes_len);
 
+/* Reads a rule file. answer (5): number, place, 0, 0, r: the file has r lines.
+ * lines (32 at least): on acceptance the first 2 * r are written, m and k of each line. nodes (2,048 at least): on acceptance the nodes of
+ * each line are written as wuz_read_rule writes them; those of line l, from 0, begin at element 128 * l. An offset is below
+ * 261,120, and can be over 65,535.
+ * Nothing else is touched.
+ * Numbers: 0 to 6, 16 to 19. */
+uint64_t wuz_read_rule_file(const uint8_t *file, size_t file_len, uint64_t *answer, size_t answer_len, uint64_t *lines, size_t lines_len,
+                            uint64_t *nodes, size_t nodes_len);
+
 /* Reads a day file. answer (5): number, place, 0, 0, n: the day has n events.
  * letters, seconds: on acceptance the first n are written, in line order; what follows is not touched.
  * Numbers: 0, 11 to 15. */
@@ -88,6 +111,12 @@ uint64_t wuz_read_day(const uint8_t *file, size_t file_len, uint8_t *letters, si
  * Numbers: 0 to 10. */
 uint64_t wuz_judge(const uint8_t *rule, size_t rule_len, const uint8_t *word, size_t word_len, uint64_t limit, uint64_t *table,
                    size_t table_len, uint64_t *answer, size_t answer_len);
+
+/* Judges every span of a word by the rule of a file's last line, as wuz_judge does by a rule: m and k, and the order of the blocks, are
+ * those of that line's replaced text. answer (4) and table: as of wuz_judge.
+ * Numbers: 0 to 10, 16 to 19. */
+uint64_t wuz_judge_rule_file(const uint8_t *file, size_t file_len, const uint8_t *word, size_t word_len, uint64_t limit, uint64_t *table,
+                             size_t table_len, uint64_t *answer, size_t answer_len);
 
 /* Runs a job. answer (5): number, place, found, count, n: the text has n bytes.
  * out: on acceptance the first n bytes are written: a line H, n, m, k, found, count (here n is the number of events), and for each span

@@ -1,13 +1,12 @@
 -- What the rule reader's answer comes to in the judge's. Assumes nothing.
-use Prim.Native.Nat.{ℕ, _-_}
-use native.Mathlib.Omega.{arith}
+use Prim.Native.Nat.{ℕ}
 use mathlib.Core.Path.{_≡_, refl, sym, ap, subst, _∙_}
 use mathlib.Core.List.{List}
 use borrow.Author.Tests.{eq-eqb, ne-eqb}
 use Rattle.event.specs.Event.{Word}
-use Rattle.regex.specs.Tree.{Tree, size, specials}
+use Rattle.regex.specs.Tree.{Tree}
 use Rattle.regex.proofs.OneReading.{tree-is}
-use Rattle.rule.specs.RuleAnswer.{RuleAnswer, ruleValues, refusalVerdict, unused}
+use Rattle.rule.specs.RuleAnswer.{RuleAnswer, ruleValues, refusalVerdict}
 use Rattle.rule.specs.RuleComputed.{ruleAnswer}
 use Rattle.rule.specs.RuleMeaning.{RuleMeaning}
 use Rattle.rule.specs.declared.Answer.{Answer}
@@ -18,12 +17,12 @@ use Rattle.rule.proofs.Answered.{answer-means, answerOf}
 use Rattle.rule.proofs.Rows.{Accepting, accepting, in-row}
 use Rattle.verdict.specs.declared.Verdict.{Verdict}
 use Rattle.work.proofs.Order.{parts-rising}
-use Rattle.owners.specs.Filling.{treeFrom, Recorded}
-use Rattle.owners.proofs.Rebuilt.{tree-from}
+use Rattle.owners.specs.Filling.{treeFrom}
 use Rattle.matcher.specs.MatchAnswer.{told}
 use Rattle.matcher.specs.MatchComputed.{matchAnswer}
 use Rattle.matcher.specs.Given.{RuleRecords}
 use Rattle.judge.specs.JudgeComputed.{judgeAnswer}
+use Rattle.judge.proofs.ReadRule.{ReadRule, rebuilt, as-records}
 
 module _ (s : List ℕ) (w : Word) (limit : ℕ) (old : List ℕ) (r : Answer) (v : answerOf r ≡ ruleAnswer s) where
   -- the reader's answer, once its outcome is known
@@ -43,30 +42,24 @@ module _ (s : List ℕ) (w : Word) (limit : ℕ) (old : List ℕ) (r : Answer) (
     read-as : Accepting s (ruleValues (Accepted m k) (r .nodes))
     read-as = accepting (subst (RuleMeaning s) (sym (known (Accepted m k) e)) (answer-means s)) refl
 
-    recorded : Recorded (read-as .tree) (r .nodes) m
-    recorded =
+    read-rule : ReadRule (read-as .tree) (r .nodes) m k
+    read-rule =
         let a = read-as in
-        let l : m ≡ size (a .tree) = ap (λ (x : RuleAnswer). x .m) (a .same) in
         record {
-          pad = unused (64 - size (a .tree));
           front = ap (λ (x : RuleAnswer). x .nodes) (a .same);
-          long = sym l;
-          few = omega (arith, a .passed .nodes);
+          long = ap (λ (x : RuleAnswer). x .m) (a .same);
+          special = ap (λ (x : RuleAnswer). x .k) (a .same);
+          few-nodes = a .passed .nodes;
+          few-special = a .passed .special;
+          rising = parts-rising (a .passed .reads);
         }
 
-    rebuilt : treeFrom (r .nodes) m ≡ read-as .tree
-    rebuilt = tree-from (read-as .tree) (r .nodes) m recorded
-
     pub rule-records : RuleRecords (treeFrom (r .nodes) m) (r .nodes) m k
-    rule-records =
-        let a = read-as in
-        let l : k ≡ specials (a .tree) = ap (λ (x : RuleAnswer). x .k) (a .same) in
-        subst (λ (t : Tree). RuleRecords t (r .nodes) m k) (sym rebuilt)
-        (record { recorded = recorded; special = sym l; few = omega (arith, a .passed .special); rising = parts-rising (a .passed .reads) })
+    rule-records = as-records read-rule
 
     pub after-acceptance : matchAnswer (treeFrom (r .nodes) m) w limit old ≡ judgeAnswer s w limit old
     unfolding judgeAnswer
     after-acceptance =
         let n : ruleAnswer s .number ≡ 0 = ap (λ (x : RuleAnswer). x .number) (sym (known (Accepted m k) e)) in
-        ap (λ (t : Tree). matchAnswer t w limit old) (rebuilt ∙ sym (tree-is (read-as .passed .reads)))
+        ap (λ (t : Tree). matchAnswer t w limit old) (rebuilt read-rule ∙ sym (tree-is (read-as .passed .reads)))
         ∙ simp (eq-eqb (ruleAnswer s .number) 0 n)

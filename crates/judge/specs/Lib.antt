@@ -2,3 +2,7 @@
 pub mod JudgeAnswer
 pub mod JudgeMeaning
 pub mod JudgeComputed
+-- The same of a rule file.
+pub mod JudgeFileAnswer
+pub mod JudgeFileMeaning
+pub mod JudgeFileComputed

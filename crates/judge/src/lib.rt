@@ -1,4 +1,6 @@
 // The judge: which spans of a word obey a rule, in a lent table, within a lent limit of work.
+pub mod file;
+
 use matcher::Outcome as MatchOutcome;
 use matcher::Refusal as MatchRefusal;
 use rule::Outcome as RuleOutcome;

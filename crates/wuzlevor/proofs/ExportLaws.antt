@@ -14,6 +14,12 @@ use Rattle.rule.specs.RuleComputed.{ruleAnswer}
 use Rattle.rule.specs.RuleMeaning.{RuleMeaning}
 use Rattle.rule.specs.declared.Answer as rule-reader
 use Rattle.rule.proofs.Rows.{sizes, records-many}
+use Rattle.rule_file.specs.FileAnswer as rule-files
+use Rattle.rule_file.specs.FileAnswer.{FileAnswer, fileValues, lineCount}
+use Rattle.rule_file.specs.FileComputed.{fileAnswer}
+use Rattle.rule_file.specs.FileMeaning.{FileMeaning}
+use Rattle.rule_file.specs.declared.Answer as file-reader
+use Rattle.rule_file.proofs.FileRows.{few-lines, lines-many, fit-lines}
 use Rattle.day.specs.DayAnswer as day
 use Rattle.day.specs.DayAnswer.{DayAnswer, dayValues, eventCount}
 use Rattle.day.specs.DayComputed.{dayAnswer}
@@ -24,18 +30,24 @@ use Rattle.judge.specs.JudgeAnswer.{JudgeAnswer, judgeValues}
 use Rattle.judge.specs.JudgeComputed.{judgeAnswer}
 use Rattle.judge.specs.JudgeMeaning.{JudgeMeaning}
 use Rattle.judge.specs.declared.Outcome as judge-type
+use Rattle.judge.specs.JudgeFileAnswer.{fileOutcomeVerdict, judgeFileValues}
+use Rattle.judge.specs.JudgeFileComputed.{judgeFileAnswer}
+use Rattle.judge.specs.JudgeFileMeaning.{JudgeFileMeaning}
+use Rattle.judge.specs.declared.file.FileOutcome as judge-file-type
 use Rattle.job.specs.JobAnswer.{JobAnswer, jobValues}
 use Rattle.job.specs.JobComputed.{jobAnswer}
 use Rattle.job.specs.JobMeaning.{JobMeaning}
 use Rattle.job.specs.declared.Answer as jobs
 use Rattle.verdict.specs.declared.Verdict.{Verdict}
-use Rattle.wuzlevor.specs.Told.{over, nodeRow}
-use Rattle.wuzlevor.specs.ExportComputed.{verdictRow}
+use Rattle.wuzlevor.specs.Told.{over, nodeRow, lineRow, overLines}
+use Rattle.wuzlevor.specs.ExportComputed.{verdictRow, LinesFit}
 use Rattle.wuzlevor.specs.Exported.{unanswered, ruleTold, RuleExport, rule-short, rule-told}
+use Rattle.wuzlevor.specs.Exported.{fileTold, FileExport, file-short, file-told}
 use Rattle.wuzlevor.specs.Exported.{dayTold, DayExport, day-short, day-told}
 use Rattle.wuzlevor.specs.Exported.{judgeTold, JudgeExport, judge-short, judge-told}
+use Rattle.wuzlevor.specs.Exported.{JudgeFileExport, judge-file-short, judge-file-told}
 use Rattle.wuzlevor.specs.Exported.{jobTold, JobExport, job-short, job-told}
-use Rattle.wuzlevor.specs.ExportComputed.{readRule, readDay, judgeSpans, runJob}
+use Rattle.wuzlevor.specs.ExportComputed.{readRule, readRuleFile, readDay, judgeSpans, judgeRuleFile, runJob}
 
 -- the two clauses of a contract, for an effect b that tells the answer x
 both : {B : Type 0} (P : B → Type 0) {b x y : B} → b ≡ x → x ≡ y → P x → (b ≡ y) × P b
@@ -67,6 +79,41 @@ module _ {text answer nodes : List ℕ} where
       ∙ ap₂ (λ (x y : ℕ). ruleTold (rule.told (rule.outcomeVerdict (r .outcome)) x y (r .nodes)) answer nodes) em ek)
       (ap (λ (x : RuleAnswer). ruleTold x answer nodes) e ∙ simp (le-ltb (length answer) 6 h, le-ltb (length nodes) 128 l))
       (rule-told h l means)
+
+-- ---- wuz_read_rule_file
+-- what `write_lines` and `write_line_nodes` ask
+pub file-fits : {file : List ℕ} (x : file-reader.Answer) {r : ℕ} → FileMeaning file (fileValues (x .outcome) (x .lines)) → r ≡ lineCount (x .outcome)
+    → (r ≤ 16) × (length (x .lines) ≡ 16) × LinesFit r (x .lines)
+file-fits x {r} means e = (
+  omega (arith, few-lines means),
+  lines-many means,
+  λ i h. fit-lines means i (omega arith),
+)
+
+module _ {file answer lines nodes : List ℕ} where
+  pub file-returns : (length answer < 5) ⊎ ((length lines < 32) ⊎ (length nodes < 2048))
+      → ((unanswered, answer, lines, nodes) ≡ readRuleFile file answer lines nodes)
+      × FileExport file answer lines nodes (unanswered, answer, lines, nodes)
+  unfolding readRuleFile
+  file-returns (inl h) = (simp (lt-ltb (length answer) 5 h), file-short (inl h))
+  file-returns (inr (inl h)) = (simp (lt-ltb (length lines) 32 h, or-true), file-short (inr (inl h)))
+  file-returns (inr (inr h)) = (simp (lt-ltb (length nodes) 2048 h, or-true), file-short (inr (inr h)))
+
+  pub file-writes : {a l n : List ℕ} (x : file-reader.Answer) {v : Verdict} {r : ℕ} → 5 ≤ length answer → 32 ≤ length lines → 2048 ≤ length nodes
+      → fileValues (x .outcome) (x .lines) ≡ fileAnswer file → FileMeaning file (fileValues (x .outcome) (x .lines))
+      → v ≡ rule-files.outcomeVerdict (x .outcome) → r ≡ lineCount (x .outcome)
+      → a ≡ over (verdictRow v ++ r ∷ []) answer → l ≡ over (lineRow (take r (x .lines))) lines → n ≡ overLines 0 (take r (x .lines)) nodes
+      → ((v .number, a, l, n) ≡ readRuleFile file answer lines nodes) × FileExport file answer lines nodes (v .number, a, l, n)
+  unfolding readRuleFile
+  file-writes {a} {l} {n} x {v} {r} h i j e means s er wa wl wn =
+      both (FileExport file answer lines nodes)
+      (ap₂ (λ (y z : List ℕ). (v .number, y, z, n)) wa wl
+      ∙ ap (λ (y : List ℕ). (v .number, over (verdictRow v ++ r ∷ []) answer, over (lineRow (take r (x .lines))) lines, y)) wn
+      ∙ ap (λ (y : Verdict). (y .number, over (verdictRow y ++ r ∷ []) answer, over (lineRow (take r (x .lines))) lines, overLines 0 (take r (x .lines)) nodes)) s
+      ∙ ap (λ (y : ℕ). fileTold (rule-files.told (rule-files.outcomeVerdict (x .outcome)) y (x .lines)) answer lines nodes) er)
+      (ap (λ (y : FileAnswer). fileTold y answer lines nodes) e
+      ∙ simp (le-ltb (length answer) 5 h, le-ltb (length lines) 32 i, le-ltb (length nodes) 2048 j))
+      (file-told h i j means)
 
 -- ---- wuz_read_day
 module _ {file letters seconds answer : List ℕ} where
@@ -107,6 +154,25 @@ module _ {rule word : List ℕ} {limit : ℕ} {table answer : List ℕ} where
       (ap (λ (x : List ℕ). (v .number, t, x)) w ∙ ap (λ (x : Verdict). (x .number, t, over (verdictRow x) answer)) s)
       (ap (λ (x : JudgeAnswer). judgeTold x answer) e ∙ simp (le-ltb (length answer) 4 h))
       (judge-told h means)
+
+-- ---- wuz_judge_rule_file
+module _ {file word : List ℕ} {limit : ℕ} {table answer : List ℕ} where
+  pub judge-file-returns : length answer < 4 → ((unanswered, table, answer) ≡ judgeRuleFile file word limit table answer)
+      × JudgeFileExport file word limit table answer (unanswered, table, answer)
+  unfolding judgeRuleFile
+  judge-file-returns h = (simp (lt-ltb (length answer) 4 h), judge-file-short h)
+
+  pub judge-file-writes : {t a : List ℕ} {v : Verdict} (o : judge-file-type.FileOutcome) → 4 ≤ length answer
+      → judgeFileValues o t ≡ judgeFileAnswer file word limit table → JudgeFileMeaning file word limit table (judgeFileValues o t)
+      → v ≡ fileOutcomeVerdict o → a ≡ over (verdictRow v) answer
+      → ((v .number, t, a) ≡ judgeRuleFile file word limit table answer)
+      × JudgeFileExport file word limit table answer (v .number, t, a)
+  unfolding judgeRuleFile
+  judge-file-writes {t} {a} {v} o h e means s w =
+      both (JudgeFileExport file word limit table answer)
+      (ap (λ (x : List ℕ). (v .number, t, x)) w ∙ ap (λ (x : Verdict). (x .number, t, over (verdictRow x) answer)) s)
+      (ap (λ (x : JudgeAnswer). judgeTold x answer) e ∙ simp (le-ltb (length answer) 4 h))
+      (judge-file-told h means)
 
 -- ---- wuz_run_job
 module _ {job out answer : List ℕ} where

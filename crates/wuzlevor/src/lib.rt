@@ -4,11 +4,13 @@ mod row;
 
 use verdict::Verdict;
 ghost use mathlib.Core.Path.{_≡_};
-ghost use Rattle.wuzlevor.specs.Exported.{RuleExport, DayExport, JudgeExport, JobExport};
-ghost use Rattle.wuzlevor.specs.ExportComputed.{readRule, readDay, judgeSpans, runJob};
+ghost use Rattle.wuzlevor.specs.Exported.{RuleExport, FileExport, DayExport, JudgeExport, JudgeFileExport, JobExport};
+ghost use Rattle.wuzlevor.specs.ExportComputed.{readRule, readRuleFile, readDay, judgeSpans, judgeRuleFile, runJob};
 
-// The elements that each call writes to its answer, and those that `nodes` must have.
+// The elements that each call writes to its answer, and those that `nodes` and `lines` must have.
 const RULE_ANSWER: usize = 6;
+
+const FILE_ANSWER: usize = 5;
 
 const DAY_ANSWER: usize = 5;
 
@@ -17,6 +19,10 @@ const JUDGE_ANSWER: usize = 4;
 const JOB_ANSWER: usize = 5;
 
 const NODES: usize = 128;
+
+const FILE_NODES: usize = 2048;
+
+const LINES: usize = 32;
 
 // What a call returns that has no room for its answer.
 const UNANSWERED: u64 = 18446744073709551615;
@@ -40,6 +46,39 @@ pub extern "C" fn wuz_read_rule(text: &[u8], answer: &mut [u64], nodes: &mut [u6
     let k = rule::special_count(outcome);
     row::write_six(answer, said, m as u64, k as u64);
     row::write_nodes(nodes, records, m);
+    said.number
+}
+
+// Reads a rule file.
+#[no_mangle]
+pub extern "C" fn wuz_read_rule_file(
+    file: &[u8],
+    answer: &mut [u64],
+    lines: &mut [u64],
+    nodes: &mut [u64],
+) -> u64
+    ensures value { λ r. ⌜ (r, now (answer .exit), now (lines .exit), now (nodes .exit))
+        ≡ readRuleFile (now (file .entry)) (now (answer .entry)) (now (lines .entry)) (now (nodes .entry)) ⌝ }
+    ensures meaning { λ r. ⌜ FileExport (now (file .entry)) (now (answer .entry)) (now (lines .entry)) (now (nodes .entry))
+        (r, now (answer .exit), now (lines .exit), now (nodes .exit)) ⌝ }
+{
+    if answer.len() < FILE_ANSWER {
+        return UNANSWERED;
+    }
+    if lines.len() < LINES {
+        return UNANSWERED;
+    }
+    if nodes.len() < FILE_NODES {
+        return UNANSWERED;
+    }
+    let reading = rule_file::read(file);
+    let outcome = reading.outcome;
+    let read = reading.lines;
+    let said = rule_file::outcome_verdict(outcome);
+    let r = rule_file::line_count(outcome);
+    row::write_five(answer, said, r as u64);
+    row::write_lines(lines, read, r);
+    row::write_line_nodes(nodes, read, r);
     said.number
 }
 
@@ -85,6 +124,29 @@ pub extern "C" fn wuz_judge(
     }
     let outcome = judge::judge(rule, word, limit, table);
     let said = judge::outcome_verdict(outcome);
+    row::write_four(answer, said);
+    said.number
+}
+
+// Judges the spans of a word by the last line of a rule file.
+#[no_mangle]
+pub extern "C" fn wuz_judge_rule_file(
+    file: &[u8],
+    word: &[u8],
+    limit: u64,
+    table: &mut [u64],
+    answer: &mut [u64],
+) -> u64
+    ensures value { λ r. ⌜ (r, now (table .exit), now (answer .exit))
+        ≡ judgeRuleFile (now (file .entry)) (now (word .entry)) limit (now (table .entry)) (now (answer .entry)) ⌝ }
+    ensures meaning { λ r. ⌜ JudgeFileExport (now (file .entry)) (now (word .entry)) limit (now (table .entry)) (now (answer .entry))
+        (r, now (table .exit), now (answer .exit)) ⌝ }
+{
+    if answer.len() < JUDGE_ANSWER {
+        return UNANSWERED;
+    }
+    let outcome = judge::file::judge_file(file, word, limit, table);
+    let said = judge::file::file_outcome_verdict(outcome);
     row::write_four(answer, said);
     said.number
 }

@@ -1,0 +1,43 @@
+-- What is said of a line that has passed: its replaced text is one, and is read as the line's tree. Assumes nothing.
+use Prim.Native.Nat.{ℕ}
+use mathlib.Core.Path.{_≡_, sym, ap, subst, _∙_}
+use mathlib.Core.Logic.{_⊎_, inl, inr}
+use mathlib.Core.List.{List, [], _∷_, List·Memᴰ, List·Memᴰ·cases-cons, List·Memᴰ·not-nil}
+use Rattle.regex.specs.Tree.{Tree}
+use Rattle.regex.specs.Grammar.{Alt, Reads}
+use Rattle.regex.specs.Lang.{Lang}
+use Rattle.regex.proofs.OneReading.{one-reading}
+use Rattle.replacement.specs.Replaced.{Replaced}
+use Rattle.replacement.proofs.Grafted.{filled-is}
+use Rattle.rule_line.specs.Lines.{Line}
+use Rattle.rule_line.specs.LineMeaning.{StandsFor}
+use Rattle.rule_line.specs.LineComputed.{textOf}
+use Rattle.rule_line.specs.Keeping.{AllRead}
+use Rattle.rule_line.proofs.LineNames.{stands-is}
+use Rattle.rule_file.specs.FileMeaning.{Passed}
+use Rattle.rule_file.proofs.FileAnswered.{passed-sound}
+
+-- ---- the replaced text of a line is determined
+pub replaced-one : {file text : List ℕ} {ls : List Line} → Passed file ls text → {s u v : List ℕ} → Replaced (StandsFor ls) s u
+    → Replaced (StandsFor ls) s v → u ≡ v
+replaced-one {ls = ls} p q r =
+    let d = passed-sound p in
+    filled-is (textOf ls) (stands-is d) q ∙ sym (filled-is (textOf ls) (stands-is d) r)
+
+line-read : (ls : List Line) → AllRead ls → (l : Line) → List·Memᴰ l ls → Reads Alt 0 (l .text) (l .tree)
+line-read [] a l h = absurd (List·Memᴰ·not-nil h)
+line-read (m ∷ ls) a l h = go (List·Memᴰ·cases-cons h) (line-read ls (a .1) l)
+  where
+    go : (l ≡ m) ⊎ List·Memᴰ l ls → (List·Memᴰ l ls → Reads Alt 0 (l .text) (l .tree)) → Reads Alt 0 (l .text) (l .tree)
+    go (inl e) ih = subst (λ (k : Line). Reads Alt 0 (k .text) (k .tree)) (sym e) (a .0)
+    go (inr x) ih = ih x
+
+-- each line's replaced text is read as the line's tree
+pub line-reads : {file text : List ℕ} {ls : List Line} → Passed file ls text → (l : Line) → List·Memᴰ l ls → Reads Alt 0 (l .text) (l .tree)
+line-reads {ls = ls} p l h = line-read ls (passed-sound p .read) l h
+
+-- 02 b): "The accuracy rule covers each named rule by its replaced text": however the replaced text is read, its language is that of the
+-- tree whose records are answered
+pub line-language : {file text : List ℕ} {ls : List Line} → Passed file ls text → (l : Line) → List·Memᴰ l ls → (t : Tree) → Reads Alt 0 (l .text) t
+    → Lang t ≡ Lang (l .tree)
+line-language p l h t r = ap Lang (one-reading r (line-reads p l h))
