@@ -77,7 +77,7 @@ pub fn judge_job(job: &[u8]) -> Result<Report, (u32, usize)> {
 
 /// Parts a job into its rule text and its day file.
 pub fn split_job(job: &[u8]) -> Result<(&[u8], &[u8]), Refusal> {
-    let refusal = Refusal::without_place(Reason::JobFirstLine);
+    let refusal = Refusal::without_place(Reason::RuleLineForm);
     let rest = job.strip_prefix(b"R\t").ok_or(refusal)?;
     let end = rest.iter().position(|&byte| byte == b'\n').ok_or(refusal)?;
     Ok((&rest[..end], &rest[end + 1..]))

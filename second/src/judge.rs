@@ -1,11 +1,12 @@
-//! The judge call: from a rule text, a word and a limit to an answer and a span table.
+//! The judge calls: from a rule text or a rule file, a word and a limit to an answer and a span
+//! table.
 
 use crate::language::spans_of_nodes;
 use crate::limits::{is_event, MAX_WORD};
 use crate::refusal::{Reason, Refusal};
 use crate::rule::{self, Rule};
-use crate::table;
 use crate::work::Automaton;
+use crate::{rule_file, table};
 
 /// What a judge call reports; number 0 means accepted.
 #[derive(Clone, Copy, Debug, PartialEq, Eq)]
@@ -28,9 +29,20 @@ impl Answer {
     }
 }
 
-/// Judges every span of the word and writes the table.
+/// Judges every span of the word by a rule text and writes the table.
 pub fn judge(rule_text: &[u8], word: &[u8], limit: u64, table: &mut [u64]) -> Answer {
-    let rule = match check(rule_text, word, table.len()) {
+    judge_by(rule::read(rule_text), word, limit, table)
+}
+
+/// Judges every span of the word by the last line of a rule file and writes the table.
+pub fn judge_file(file: &[u8], word: &[u8], limit: u64, table: &mut [u64]) -> Answer {
+    judge_by(rule_file::read_last(file), word, limit, table)
+}
+
+/// Judges by a rule, if reading it has given one.
+fn judge_by(reading: Result<Rule, Refusal>, word: &[u8], limit: u64, table: &mut [u64]) -> Answer {
+    let checked = reading.and_then(|rule| check(&rule, word, table.len()).map(|()| rule));
+    let rule = match checked {
         Ok(rule) => rule,
         Err(refusal) => return Answer::refused(refusal, 0),
     };
@@ -50,9 +62,8 @@ pub fn judge(rule_text: &[u8], word: &[u8], limit: u64, table: &mut [u64]) -> An
     }
 }
 
-/// Reads the rule, and refuses what can be refused before any work.
-fn check(rule_text: &[u8], word: &[u8], table_length: usize) -> Result<Rule, Refusal> {
-    let rule = rule::read(rule_text)?;
+/// Refuses what can be refused after the reading and before any work.
+fn check(rule: &Rule, word: &[u8], table_length: usize) -> Result<(), Refusal> {
     if word.len() > MAX_WORD {
         return Err(Refusal::without_place(Reason::WordTooLong));
     }
@@ -62,5 +73,5 @@ fn check(rule_text: &[u8], word: &[u8], table_length: usize) -> Result<Rule, Ref
     if table_length < table::need(rule.k(), word.len()) {
         return Err(Refusal::without_place(Reason::TableTooShort));
     }
-    Ok(rule)
+    Ok(())
 }

@@ -1,5 +1,6 @@
-//! The second program: an independent reference implementation of document 01, which shares no code
-//! with the program that is proved, to be compared with it.
+//! The second program: an independent reference implementation of document 01 and of the first
+//! requests of document 02, which shares no code with the program that is proved, to be compared
+//! with it.
 
 #![deny(unsafe_code)]
 
@@ -21,6 +22,7 @@ pub mod language;
 pub mod letter_edges;
 pub mod limits;
 pub mod lines;
+pub mod named_rule;
 pub mod printed;
 pub mod random;
 pub mod random_calls;
@@ -29,6 +31,10 @@ pub mod random_rules;
 pub mod refusal;
 pub mod rule;
 pub mod rule_edges;
+pub mod rule_file;
+pub mod rule_file_chains;
+pub mod rule_file_edges;
+pub mod rule_file_lines;
 pub mod stream;
 pub mod table;
 pub mod work;

@@ -18,6 +18,17 @@ pub const MAX_NODES: usize = 64;
 /// The most special nodes a rule may have (k).
 pub const MAX_SPECIAL: usize = 7;
 
+/// The most lines of a rule file.
+pub const MAX_RULE_LINES: usize = 16;
+
+/// The longest name of a rule, in bytes.
+pub const MAX_NAME_BYTES: usize = 12;
+
+/// Whether a byte may stand in a name.
+pub fn is_name_byte(byte: u8) -> bool {
+    byte.is_ascii_lowercase()
+}
+
 /// The longest word, in events (n).
 pub const MAX_WORD: usize = 255;
 

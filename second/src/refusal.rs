@@ -1,6 +1,6 @@
-//! The refusals of document 01: a numbered reason and a place.
+//! The refusals of documents 01 and 02: a numbered reason and a place.
 
-/// Why a request is refused; the value of each reason is its number in document 01.
+/// Why a request is refused; the value of each reason is its number in those documents.
 #[derive(Clone, Copy, Debug, PartialEq, Eq)]
 pub enum Reason {
     RuleEmpty = 1,
@@ -18,7 +18,11 @@ pub enum Reason {
     LineSecond = 13,
     TooManyLines = 14,
     BufferTooShort = 15,
-    JobFirstLine = 16,
+    /// Of a job's first line, or of a line of a rule file.
+    RuleLineForm = 16,
+    UnknownName = 17,
+    NameTaken = 18,
+    TooManyRuleLines = 19,
 }
 
 /// A reason with the place it names.
@@ -29,17 +33,17 @@ pub struct Refusal {
 }
 
 impl Refusal {
-    /// A refusal whose place document 01 names.
+    /// A refusal whose place is named.
     pub fn at(reason: Reason, place: usize) -> Self {
         Refusal { reason, place }
     }
 
-    /// A refusal whose place document 01 leaves unnamed, which makes it 0.
+    /// A refusal whose place is not named, which makes it 0.
     pub fn without_place(reason: Reason) -> Self {
         Refusal { reason, place: 0 }
     }
 
-    /// The number document 01 gives the reason.
+    /// The number of the reason.
     pub fn number(self) -> u32 {
         self.reason as u32
     }

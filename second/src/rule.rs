@@ -1,7 +1,9 @@
 //! The reader of rule texts: refusals 1 to 6, and the tree with its byte offsets.
 //!
 //! A sentence is read by splitting it at its loosest operator, over and over;
-//! whether a text is a sentence at all is settled before, by one pass over its bytes.
+//! whether a text is a sentence at all, and how many nodes it has, is settled before, by passes
+//! over its bytes. What is read from a sentence does not depend on a rule's 255 bytes: a text in
+//! which names were replaced is longer, and has far more parentheses than nodes.
 
 use std::ops::Range;
 
@@ -75,18 +77,24 @@ pub fn read(text: &[u8]) -> Result<Rule, Refusal> {
         return Err(Refusal::at(Reason::RuleByte, offset));
     }
     check_sentence(text).map_err(|length| Refusal::at(Reason::NotASentence, length))?;
-    let rule = split_sentence(text);
-    if rule.m() > MAX_NODES {
-        return Err(Refusal::without_place(Reason::TooManyNodes));
+    read_sentence(text).map_err(Refusal::without_place)
+}
+
+/// Reads a sentence of any length, unless it has too many nodes or special nodes.
+pub fn read_sentence(text: &[u8]) -> Result<Rule, Reason> {
+    // Counted before they are split, so that splitting never goes deeper than 64 nodes.
+    let (nodes, special) = count_nodes(text);
+    if nodes > MAX_NODES {
+        return Err(Reason::TooManyNodes);
     }
-    if rule.k() > MAX_SPECIAL {
-        return Err(Refusal::without_place(Reason::TooManySpecialNodes));
+    if special > MAX_SPECIAL {
+        return Err(Reason::TooManySpecialNodes);
     }
-    Ok(rule)
+    Ok(split_sentence(text))
 }
 
 /// Whether a byte may stand in a rule text.
-fn is_listed(byte: u8) -> bool {
+pub fn is_listed(byte: u8) -> bool {
     is_leaf(byte) || b"|&!*()".contains(&byte)
 }
 
@@ -99,7 +107,7 @@ pub fn is_leaf(byte: u8) -> bool {
 ///
 /// Every beginning that passes can be completed: by a letter if an operand is due,
 /// and then by a closing parenthesis for each one still open.
-fn check_sentence(text: &[u8]) -> Result<(), usize> {
+pub fn check_sentence(text: &[u8]) -> Result<(), usize> {
     let mut open = 0;
     let mut operand_due = true;
     for (offset, &byte) in text.iter().enumerate() {
@@ -122,10 +130,27 @@ fn check_sentence(text: &[u8]) -> Result<(), usize> {
     Ok(())
 }
 
+/// How many nodes a sentence has, and how many of them are special.
+fn count_nodes(text: &[u8]) -> (usize, usize) {
+    let signs = text.iter().filter(|byte| !b"()".contains(byte)).count();
+    let special = text.iter().filter(|byte| b"&!".contains(byte)).count();
+    let ends_operand = |byte: u8| is_leaf(byte) || byte == b')' || byte == b'*';
+    let meeting = |pair: &&[u8]| ends_operand(pair[0]) && begins_operand(pair[1]);
+    // Concatenations have no sign: they stand wherever two operands meet.
+    let concatenations = text.windows(2).filter(meeting).count();
+    (signs + concatenations, special)
+}
+
+/// Whether an operand may begin with a byte.
+fn begins_operand(byte: u8) -> bool {
+    is_leaf(byte) || byte == b'(' || byte == b'!'
+}
+
 /// Reads a text that is known to be a sentence.
 fn split_sentence(text: &[u8]) -> Rule {
     let mut splitter = Splitter {
         text,
+        partners: partners(text),
         nodes: Vec::new(),
     };
     splitter.read_part(0..text.len());
@@ -134,16 +159,31 @@ fn split_sentence(text: &[u8]) -> Rule {
     }
 }
 
-/// The text that is split and the nodes read so far.
+/// For each opening parenthesis of a sentence, by its offset, the offset of the closing one.
+fn partners(text: &[u8]) -> Vec<usize> {
+    let mut partners = vec![0; text.len()];
+    let mut open = Vec::new();
+    for (at, &byte) in text.iter().enumerate() {
+        match byte {
+            b'(' => open.push(at),
+            b')' => partners[open.pop().expect("a sentence opens what it closes")] = at,
+            _ => {}
+        }
+    }
+    partners
+}
+
+/// The text that is split, its parentheses' partners and the nodes read so far.
 struct Splitter<'a> {
     text: &'a [u8],
+    partners: Vec<usize>,
     nodes: Vec<Node>,
 }
 
 impl Splitter<'_> {
     /// Reads a part of the text; gives the index of the node that heads it.
     fn read_part(&mut self, part: Range<usize>) -> usize {
-        let Range { start, end } = part;
+        let Range { start, end } = self.without_parentheses(part);
         let outside = self.outside_parentheses(start, end);
         let outside = || outside.iter().copied();
         // Grouping from the left makes the last of the loosest operators the head.
@@ -159,36 +199,39 @@ impl Splitter<'_> {
             self.read_one_side(start + 1..end, start, Kind::Complement)
         } else if self.text[end - 1] == b'*' {
             self.read_one_side(start..end - 1, end - 1, Kind::Star)
-        } else if self.text[start] == b'(' {
-            self.read_part(start + 1..end - 1)
         } else {
             self.push(start, leaf_kind(self.text[start]))
         }
     }
 
+    /// A part without the parentheses that stand around all of it, however many they are.
+    fn without_parentheses(&self, part: Range<usize>) -> Range<usize> {
+        let Range { mut start, mut end } = part;
+        while self.text[start] == b'(' && self.partners[start] == end - 1 {
+            start += 1;
+            end -= 1;
+        }
+        start..end
+    }
+
     /// The offsets that lie in no parentheses of a part; an opening one itself lies outside.
     fn outside_parentheses(&self, start: usize, end: usize) -> Vec<usize> {
         let mut outside = Vec::new();
-        let mut open = 0;
-        for at in start..end {
-            if self.text[at] == b')' {
-                open -= 1;
-            } else if open == 0 {
-                outside.push(at);
-            }
-            if self.text[at] == b'(' {
-                open += 1;
-            }
+        let mut at = start;
+        while at < end {
+            outside.push(at);
+            at = match self.text[at] {
+                b'(' => self.partners[at] + 1,
+                _ => at + 1,
+            };
         }
         outside
     }
 
     /// Whether a concatenation's right side begins at an offset, in a part with nothing looser.
     fn begins_side(&self, start: usize, at: usize) -> bool {
-        let byte = self.text[at];
-        let begins_operand = is_leaf(byte) || byte == b'(' || byte == b'!';
         // What follows a complement sign is that sign's own side.
-        at > start && begins_operand && self.text[at - 1] != b'!'
+        at > start && begins_operand(self.text[at]) && self.text[at - 1] != b'!'
     }
 
     /// Reads both sides and then adds the node that joins them.

@@ -1,12 +1,20 @@
-//! The four calls of the C interface, with every buffer as a slice.
+//! The six calls of the C interface, with every buffer as a slice.
 
 use std::fmt;
 
 use super::letters::Letters;
+use super::names::{self, Names};
 use super::trouble::Trouble;
+use crate::limits::MAX_RULE_LINES;
 
 /// How many numbers the nodes' buffer must have, however few of them a rule takes.
 pub const NODES: usize = 128;
+
+/// How many numbers the nodes' buffer of a rule file must have: so many for each line.
+pub const FILE_NODES: usize = NODES * MAX_RULE_LINES;
+
+/// How many numbers the lines' buffer of a rule file must have: two for each line.
+pub const FILE_LINES: usize = 2 * MAX_RULE_LINES;
 
 /// What a call returns that has no room for its answer.
 pub const UNANSWERED: u64 = u64::MAX;
@@ -36,6 +44,19 @@ pub enum Call<'a> {
         out: &'a mut [u8],
         answer: &'a mut [u64],
     },
+    ReadRuleFile {
+        file: &'a [u8],
+        answer: &'a mut [u64],
+        lines: &'a mut [u64],
+        nodes: &'a mut [u64],
+    },
+    JudgeRuleFile {
+        file: &'a [u8],
+        word: &'a [u8],
+        limit: u64,
+        table: &'a mut [u64],
+        answer: &'a mut [u64],
+    },
 }
 
 /// A library that does the calls and gives what each returns; the text names the case, for messages
@@ -49,10 +70,15 @@ pub enum Callee {
     ReadDay,
     Judge,
     RunJob,
+    ReadRuleFile,
+    JudgeRuleFile,
     Program,
     /// The program while something happens to its standard input or output.
     Troubled,
 }
+
+/// A callee with the kinds of its cases that have to come.
+pub type Required = (Callee, Vec<Kind>);
 
 /// What a case is counted as.
 #[derive(Clone, Copy, Debug, PartialEq, Eq, PartialOrd, Ord)]
@@ -61,8 +87,12 @@ pub enum Kind {
     Unanswered,
     /// This number should come.
     Number(u32),
-    /// Besides its number it shows this.
+    /// A rule file should be refused by this number at this line.
+    AtLine(u32, usize),
+    /// Besides its number it shows this of the letters.
     Shown(Letters),
+    /// Besides its number it shows this of a rule file's names.
+    ShownNames(Names),
     /// This happens to the program.
     Trouble(Trouble),
 }
@@ -80,7 +110,11 @@ impl fmt::Display for Kind {
             Kind::Unanswered => formatter.pad("a buffer too short to answer"),
             Kind::Number(0) => formatter.pad("accepted"),
             Kind::Number(number) => formatter.pad(&format!("refusal {number}")),
+            Kind::AtLine(number, line) => {
+                formatter.pad(&format!("refusal {number} at line {line}"))
+            }
             Kind::Shown(letters) => letters.fmt(formatter),
+            Kind::ShownNames(names) => names.fmt(formatter),
             Kind::Trouble(trouble) => trouble.fmt(formatter),
         }
     }
@@ -88,38 +122,58 @@ impl fmt::Display for Kind {
 
 impl Callee {
     /// The calls of the library.
-    pub const LIBRARY: [Callee; 4] = [
+    pub const LIBRARY: [Callee; 6] = [
         Callee::ReadRule,
         Callee::ReadDay,
         Callee::Judge,
         Callee::RunJob,
+        Callee::ReadRuleFile,
+        Callee::JudgeRuleFile,
     ];
 
     /// How many elements of its answer a call writes; the program has no such buffer.
     pub fn answer_length(self) -> usize {
         match self {
             Callee::ReadRule => 6,
-            Callee::ReadDay | Callee::RunJob => 5,
-            Callee::Judge => 4,
+            Callee::ReadDay | Callee::RunJob | Callee::ReadRuleFile => 5,
+            Callee::Judge | Callee::JudgeRuleFile => 4,
             Callee::Program | Callee::Troubled => 0,
         }
     }
 
-    /// Every kind of case there can be.
+    /// Every kind of case there can be, but for the lines at which a rule file is refused.
     pub fn kinds(self) -> Vec<Kind> {
         let numbers: Vec<u32> = match self {
             Callee::ReadRule => (0..=6).collect(),
             Callee::ReadDay => [0].into_iter().chain(11..=15).collect(),
             Callee::Judge => (0..=10).collect(),
             Callee::RunJob => (0..=6).chain(11..=16).collect(),
+            Callee::ReadRuleFile => (0..=6).chain(16..=19).collect(),
+            Callee::JudgeRuleFile => (0..=10).chain(16..=19).collect(),
             // The program's own buffer takes every text, so it never gives 15.
             Callee::Program => (0..=6).chain(11..=14).chain([16]).collect(),
             Callee::Troubled => return Trouble::ALL.map(Kind::Trouble).to_vec(),
         };
         let unanswered = (self != Callee::Program).then_some(Kind::Unanswered);
         let numbers = numbers.into_iter().map(Kind::Number);
-        let shown = Letters::of(self).iter().copied().map(Kind::Shown);
+        let letters = Letters::of(self).iter().copied().map(Kind::Shown);
+        let names = Names::of(self).iter().copied().map(Kind::ShownNames);
+        let shown = letters.chain(names);
         numbers.chain(unanswered).chain(shown).collect()
+    }
+
+    /// What a run with many cases must have.
+    pub fn required(self) -> Required {
+        (self, self.kinds())
+    }
+
+    /// What a run with all the edges must have: each refusal at each line of a rule file, too.
+    pub fn required_of_edges(self) -> Required {
+        let lines = match self {
+            Callee::ReadRuleFile | Callee::JudgeRuleFile => names::refusals_at_lines(),
+            _ => Vec::new(),
+        };
+        (self, [self.kinds(), lines].concat())
     }
 }
 
@@ -130,6 +184,8 @@ impl fmt::Display for Callee {
             Callee::ReadDay => "wuz_read_day",
             Callee::Judge => "wuz_judge",
             Callee::RunJob => "wuz_run_job",
+            Callee::ReadRuleFile => "wuz_read_rule_file",
+            Callee::JudgeRuleFile => "wuz_judge_rule_file",
             Callee::Program => "the program",
             Callee::Troubled => "the program in trouble",
         })

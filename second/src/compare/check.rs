@@ -3,15 +3,16 @@
 
 use super::call::{Call, Callee, Kind, Library, UNANSWERED};
 use super::lent::{Difference, Dirt, Lent, Side};
-use super::letters::{self, Letters};
 use super::reference;
 use super::request::{Asked, Request};
+use super::{letters, names};
 
 /// What came of one comparison.
 pub struct Checked {
     pub callee: Callee,
     pub kind: Kind,
-    pub shown: Vec<Letters>,
+    /// What it is counted as besides.
+    pub shown: Vec<Kind>,
     pub difference: Option<Difference>,
 }
 
@@ -20,7 +21,7 @@ pub fn check(library: &Library, case: &str, request: &Request) -> Checked {
     let mut buffers = Buffers::new(request);
     let returned = library(case, buffers.call(request, Side::Library));
     let number = reference::run(buffers.call(request, Side::Second));
-    let shown = number.map(|number| letters::shown(&request.asked, number, buffers.place()));
+    let shown = number.map(|number| shown(&request.asked, number, buffers.place()));
     // The answer is looked at first, because it says the most.
     let difference = buffers.answer.difference();
     let expected = reference::returned(number);
@@ -31,6 +32,13 @@ pub fn check(library: &Library, case: &str, request: &Request) -> Checked {
         shown: shown.unwrap_or_default(),
         difference: difference.or_else(|| buffers.difference()),
     }
+}
+
+/// What a case shows if such a number and place should come.
+fn shown(asked: &Asked, number: u32, place: usize) -> Vec<Kind> {
+    let letters = letters::shown(asked, number, place);
+    let letters = letters.into_iter().map(Kind::Shown);
+    letters.chain(names::shown(asked, number, place)).collect()
 }
 
 /// What is wrong with the number that a call returned.
@@ -52,13 +60,15 @@ fn shown_returned(number: u64) -> String {
 
 /// The buffers of any call; those that a call does not have are empty.
 struct Buffers {
-    /// What is read first: a rule text, a day file or a job.
+    /// What is read first: a rule text, a day file, a job or a rule file.
     first: Lent<u8>,
     word: Lent<u8>,
     /// The letters of a day, or the text of a job.
     bytes: Lent<u8>,
     seconds: Lent<u32>,
-    /// The nodes of a rule, or the table of a judgement.
+    /// The two numbers of each line of a rule file.
+    lines: Lent<u64>,
+    /// The nodes of a rule or of a rule file, or the table of a judgement.
     numbers: Lent<u64>,
     answer: Lent<u64>,
 }
@@ -94,6 +104,18 @@ impl Buffers {
                 buffers.first = Lent::holding("job", job, dirt);
                 buffers.bytes = Lent::dirty("out", *out, dirt);
             }
+            Asked::RuleFile { file, lines, nodes } => {
+                buffers.first = Lent::holding("file", file, dirt);
+                buffers.lines = Lent::dirty("lines", *lines, dirt);
+                buffers.numbers = Lent::dirty("nodes", *nodes, dirt);
+            }
+            Asked::JudgeFile {
+                file, word, table, ..
+            } => {
+                buffers.first = Lent::holding("file", file, dirt);
+                buffers.word = Lent::holding("word", word, dirt);
+                buffers.numbers = Lent::dirty("table", *table, dirt);
+            }
         }
         buffers
     }
@@ -106,6 +128,7 @@ impl Buffers {
             word: Lent::dirty(NONE, 0, dirt),
             bytes: Lent::dirty(NONE, 0, dirt),
             seconds: Lent::dirty(NONE, 0, dirt),
+            lines: Lent::dirty(NONE, 0, dirt),
             numbers: Lent::dirty(NONE, 0, dirt),
             answer: Lent::dirty(NONE, 0, dirt),
         }
@@ -139,6 +162,19 @@ impl Buffers {
                 out: self.bytes.side(side),
                 answer,
             },
+            Asked::RuleFile { .. } => Call::ReadRuleFile {
+                file: first,
+                answer,
+                lines: self.lines.side(side),
+                nodes: self.numbers.side(side),
+            },
+            Asked::JudgeFile { limit, .. } => Call::JudgeRuleFile {
+                file: first,
+                word: self.word.side(side),
+                limit,
+                table: self.numbers.side(side),
+                answer,
+            },
         }
     }
 
@@ -149,8 +185,9 @@ impl Buffers {
 
     /// The first difference outside the answer.
     fn difference(&self) -> Option<Difference> {
-        let numbers = self.numbers.difference();
-        numbers
+        let lines = self.lines.difference();
+        lines
+            .or_else(|| self.numbers.difference())
             .or_else(|| self.bytes.difference())
             .or_else(|| self.seconds.difference())
             .or_else(|| self.first.difference())

@@ -4,7 +4,7 @@ use std::ffi::OsStr;
 use std::fmt::Display;
 use std::io::{self, Write};
 
-use super::call::{Callee, Library};
+use super::call::{Callee, Library, Required};
 use super::check::check;
 use super::program::{self, Input};
 use super::progress::Progress;
@@ -67,7 +67,7 @@ pub fn edges(library: &Library, command: &str, output: &mut dyn Write) -> io::Re
             break;
         }
     }
-    run.finish(&Callee::LIBRARY)
+    run.finish(&Callee::LIBRARY.map(Callee::required_of_edges))
 }
 
 /// Compares random requests to the library; tells whether all is well.
@@ -90,11 +90,11 @@ pub fn library(
             break;
         }
     }
-    let required: &[Callee] = match cases.count {
-        MANY_REQUESTS.. => &Callee::LIBRARY,
-        _ => &[],
+    let required = match cases.count {
+        MANY_REQUESTS.. => Callee::LIBRARY.map(Callee::required).into(),
+        _ => Vec::new(),
     };
-    run.finish(required)
+    run.finish(&required)
 }
 
 /// Compares the program in trouble, and then whole jobs, each through the program and the library;
@@ -131,7 +131,8 @@ pub fn jobs(
         MANY_JOBS.. => &[Callee::Troubled, Callee::RunJob, Callee::Program],
         _ => &[Callee::Troubled],
     };
-    run.finish(required)
+    let required: Vec<Required> = required.iter().map(|callee| callee.required()).collect();
+    run.finish(&required)
 }
 
 /// Compares what the program does in trouble; the command shows it again.

@@ -1,10 +1,10 @@
-//! The edges as requests to the library: the streams of `second edges`, jobs, and every byte where
-//! an event can stand.
+//! The edges as requests to the library: the streams of `second edges`, jobs, every byte where an
+//! event can stand, and rule files.
 
-use super::call::{Callee, NODES};
-use super::job_edges;
+use super::call::{Callee, FILE_LINES, FILE_NODES, NODES};
 use super::lent::Dirt;
 use super::request::{Asked, Request};
+use super::{job_edges, rule_file_requests};
 use crate::limits::LETTERS;
 use crate::{edges, job, letter_edges, table};
 
@@ -16,6 +16,9 @@ const NOISE: u64 = 1;
 
 /// How many elements a buffer has beyond those it must have.
 const BEYOND: usize = 5;
+
+/// Names as rule files have them, in plain rules.
+const PLAIN_NAMES: [&str; 8] = ["<a>", "a<a>", "a<", "a>", ">", "<>", "(<x>)", "<x>)"];
 
 /// How many elements a buffer has for the letters or the seconds of a few lines.
 const LINES: usize = 3;
@@ -33,8 +36,13 @@ pub fn requests() -> Vec<Request> {
     requests.extend(jobs.flat_map(in_all_dirt));
     // So many that each comes in ones or in noise alone, by turns.
     let calls = (0..=255).flat_map(with_byte).enumerate();
-    requests.extend(calls.map(|(index, asked)| in_all_dirt(asked)[index % 2].clone()));
+    requests.extend(calls.map(|(index, asked)| in_one_dirt(asked, index)));
+    requests.extend(PLAIN_NAMES.into_iter().flat_map(with_plain_name));
+    // Two neighbours are about one file, and come in the same dirt.
+    let calls = rule_file_requests::calls().into_iter().enumerate();
+    requests.extend(calls.map(|(index, asked)| in_one_dirt(asked, index / 2)));
     requests.extend(too_short_to_answer());
+    requests.extend(too_short_for_lines());
     requests
 }
 
@@ -46,6 +54,24 @@ fn in_all_dirt(asked: Asked) -> [Request; 2] {
         answer,
         dirt,
     })
+}
+
+/// A call in ones or in noise, by turns.
+fn in_one_dirt(asked: Asked, turn: usize) -> Request {
+    in_all_dirt(asked)[turn % 2].clone()
+}
+
+/// A rule with a name in every call that takes a plain rule, where it has no meaning.
+fn with_plain_name(rule: &str) -> Vec<Request> {
+    let text = rule.as_bytes().to_vec();
+    let job = job_edges::job(&text, b"E\t0\ta\n");
+    let nodes = NODES;
+    let calls = [
+        judgement(&text, b"a"),
+        with_room(job),
+        Asked::Rule { text, nodes },
+    ];
+    calls.into_iter().flat_map(in_all_dirt).collect()
 }
 
 /// A job with buffers for its text that have none, one too few, enough and more.
@@ -131,6 +157,34 @@ fn too_short_to_answer() -> Vec<Request> {
     requests
 }
 
+/// Calls that read a rule file whose lines or nodes are too short, good ones and refused ones.
+fn too_short_for_lines() -> Vec<Request> {
+    let lengths = [
+        (0, 0),
+        (0, FILE_NODES),
+        (1, FILE_NODES),
+        (2, FILE_NODES),
+        (FILE_LINES - 1, FILE_NODES),
+        (FILE_LINES, 0),
+        (FILE_LINES, NODES),
+        (FILE_LINES, FILE_NODES - 1),
+        (FILE_LINES - 1, FILE_NODES - 1),
+        // Just as long as they must be.
+        (FILE_LINES, FILE_NODES),
+    ];
+    let mut requests = Vec::new();
+    for file in [&b"R\tx\t!a\n"[..], b"", b"R\tx\t)\n"] {
+        for (lines, nodes) in lengths {
+            let file = file.to_vec();
+            let request = in_all_dirt(Asked::RuleFile { file, lines, nodes });
+            let answer = Callee::ReadRuleFile.answer_length() - 1;
+            requests.extend(request.clone().map(|request| Request { answer, ..request }));
+            requests.extend(request);
+        }
+    }
+    requests
+}
+
 /// For each call one that is accepted and one that is refused.
 fn good_and_bad_calls() -> Vec<Asked> {
     let mut calls = Vec::new();
@@ -157,6 +211,9 @@ fn good_and_bad_calls() -> Vec<Asked> {
         limit: 6,
         table: 16,
     });
+    for file in [&b"R\tx\t!a\n"[..], b"R\tx\t_\n"] {
+        calls.extend(rule_file_requests::read_and_judged(file.to_vec()));
+    }
     for file in [&b"E\t0\ta\n"[..], b"E\t0\t_\n"] {
         calls.push(Asked::Day {
             file: file.to_vec(),

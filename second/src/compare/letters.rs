@@ -6,7 +6,7 @@ use std::ops::RangeInclusive;
 use super::call::Callee;
 use super::request::Asked;
 use crate::refusal::Reason;
-use crate::{day, job};
+use crate::{day, job, named_rule, rule_file};
 
 /// The bytes between the capitals and the small letters, which are no letters.
 const BETWEEN: RangeInclusive<u8> = b'['..=b'`';
@@ -28,9 +28,11 @@ impl Letters {
     pub fn of(callee: Callee) -> &'static [Letters] {
         use Letters::*;
         match callee {
-            Callee::ReadRule => &[CapitalInRule, BetweenInRule],
+            Callee::ReadRule | Callee::ReadRuleFile => &[CapitalInRule, BetweenInRule],
             Callee::ReadDay => &[CapitalInDay, BetweenInDay],
-            Callee::Judge => &[CapitalInRule, CapitalInWord, BetweenInRule, BetweenInWord],
+            Callee::Judge | Callee::JudgeRuleFile => {
+                &[CapitalInRule, CapitalInWord, BetweenInRule, BetweenInWord]
+            }
             Callee::RunJob | Callee::Program => {
                 &[CapitalInRule, CapitalInDay, BetweenInRule, BetweenInDay]
             }
@@ -60,6 +62,8 @@ pub fn shown(asked: &Asked, number: u32, place: usize) -> Vec<Letters> {
         Asked::Day { file, .. } => parts.day = file,
         Asked::Judge { rule, word, .. } => (parts.rule, parts.word) = (rule, word),
         Asked::Job { job, .. } => return shown_by_job(job, number, place),
+        Asked::RuleFile { file, .. } => return shown_by_file(file, b"", number, place),
+        Asked::JudgeFile { file, word, .. } => return shown_by_file(file, word, number, place),
     }
     parts.shown(number, place)
 }
@@ -70,6 +74,27 @@ pub fn shown_by_job(job: &[u8], number: u32, place: usize) -> Vec<Letters> {
     if let Ok((rule, day)) = job::split_job(job) {
         (parts.rule, parts.day) = (rule, day);
     }
+    parts.shown(number, place)
+}
+
+/// What a rule file shows, with the word that is judged, if such a number and place should come.
+fn shown_by_file(file: &[u8], word: &[u8], number: u32, place: usize) -> Vec<Letters> {
+    let rules: Vec<&[u8]> = rule_file::written_lines(file)
+        .map(|line| line.rule)
+        .collect();
+    let (rule, place) = if number == Reason::RuleByte as u32 {
+        // Its place is the line, from 1; the letters are told by the offset in that line's rule.
+        let rule = rules[place - 1];
+        let offset = named_rule::first_foreign(rule).expect("a foreign byte is refused");
+        (rule.to_vec(), offset)
+    } else {
+        (rules.concat(), place)
+    };
+    let parts = Parts {
+        rule: &rule,
+        word,
+        day: b"",
+    };
     parts.shown(number, place)
 }
 

@@ -9,6 +9,7 @@ pub mod edge_requests;
 pub mod job_edges;
 pub mod lent;
 pub mod letters;
+pub mod names;
 pub mod program;
 pub mod progress;
 #[cfg(feature = "proved")]
@@ -16,8 +17,10 @@ pub mod progress;
 pub mod proved;
 pub mod random_jobs;
 pub mod random_requests;
+pub mod random_rule_files;
 pub mod reference;
 pub mod request;
+pub mod rule_file_requests;
 pub mod run;
 pub mod running;
 pub mod tally;

@@ -85,10 +85,11 @@ pub fn check(program: &OsStr, input: &Input) -> Checked {
         Ok(ran) => ran.difference(expected.as_bytes()),
         Err(failure) => Some(failed_run(failure)),
     };
+    let letters = letters::shown_by_job(input.job(), number, place);
     Checked {
         callee: Callee::Program,
         kind: Kind::Number(number),
-        shown: letters::shown_by_job(input.job(), number, place),
+        shown: letters.into_iter().map(Kind::Shown).collect(),
         difference,
     }
 }

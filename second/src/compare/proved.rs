@@ -45,6 +45,27 @@ extern "C" {
         answer: *mut u64,
         answer_len: usize,
     ) -> u64;
+    fn wuz_read_rule_file(
+        file: *const u8,
+        file_len: usize,
+        answer: *mut u64,
+        answer_len: usize,
+        lines: *mut u64,
+        lines_len: usize,
+        nodes: *mut u64,
+        nodes_len: usize,
+    ) -> u64;
+    fn wuz_judge_rule_file(
+        file: *const u8,
+        file_len: usize,
+        word: *const u8,
+        word_len: usize,
+        limit: u64,
+        table: *mut u64,
+        table_len: usize,
+        answer: *mut u64,
+        answer_len: usize,
+    ) -> u64;
 }
 
 /// Does a call on a small stack, in a thread with the case's name; gives what it returns.
@@ -84,6 +105,19 @@ fn run_here(call: Call<'_>) -> u64 {
             answer,
         } => judge(rule, word, limit, table, answer),
         Call::RunJob { job, out, answer } => run_job(job, out, answer),
+        Call::ReadRuleFile {
+            file,
+            answer,
+            lines,
+            nodes,
+        } => read_rule_file(file, answer, lines, nodes),
+        Call::JudgeRuleFile {
+            file,
+            word,
+            limit,
+            table,
+            answer,
+        } => judge_rule_file(file, word, limit, table, answer),
     }
 }
 
@@ -141,6 +175,43 @@ fn run_job(job: &[u8], out: &mut [u8], answer: &mut [u64]) -> u64 {
             job.len(),
             out.as_mut_ptr(),
             out.len(),
+            answer.as_mut_ptr(),
+            answer.len(),
+        )
+    }
+}
+
+fn read_rule_file(file: &[u8], answer: &mut [u64], lines: &mut [u64], nodes: &mut [u64]) -> u64 {
+    unsafe {
+        wuz_read_rule_file(
+            file.as_ptr(),
+            file.len(),
+            answer.as_mut_ptr(),
+            answer.len(),
+            lines.as_mut_ptr(),
+            lines.len(),
+            nodes.as_mut_ptr(),
+            nodes.len(),
+        )
+    }
+}
+
+fn judge_rule_file(
+    file: &[u8],
+    word: &[u8],
+    limit: u64,
+    table: &mut [u64],
+    answer: &mut [u64],
+) -> u64 {
+    unsafe {
+        wuz_judge_rule_file(
+            file.as_ptr(),
+            file.len(),
+            word.as_ptr(),
+            word.len(),
+            limit,
+            table.as_mut_ptr(),
+            table.len(),
             answer.as_mut_ptr(),
             answer.len(),
         )

@@ -1,24 +1,31 @@
-//! Random requests to the library: all four calls, and buffers of every length about the need.
+//! Random requests to the library: all six calls, and buffers of every length about the need.
 
-use super::call::NODES;
+use super::call::{FILE_LINES, FILE_NODES, NODES};
 use super::edge_requests::text_length;
 use super::job_edges;
 use super::lent::Dirt;
 use super::random_jobs::{self, deeply_nested, LENGTHS};
+use super::random_rule_files;
 use super::request::{Asked, Request};
+use super::rule_file_requests::FileCall;
 use crate::calls::Call;
 use crate::generate::{any_byte, change_byte};
 use crate::judge_edges::BAD_RULES;
-use crate::limits::{MAX_SPECIAL, MAX_WORD};
+use crate::limits::{is_event, MAX_SPECIAL, MAX_WORD};
 use crate::random::Random;
 use crate::stream::Case;
-use crate::{day_edges, random_calls, random_days, random_rules, rule_edges, table};
+use crate::{day_edges, random_calls, random_days, random_rules};
+use crate::{rule_edges, rule_file, rule_file_edges, table};
+
+/// The longest of the rule files on the edges that any draw starts from.
+const LONGEST_FILE: usize = 10_000;
 
 /// What any draw starts from: the edges, which also come as they are.
 pub struct Draws {
     rules: Vec<Vec<u8>>,
     days: Vec<Vec<u8>>,
     jobs: Vec<Vec<u8>>,
+    rule_files: Vec<Vec<u8>>,
 }
 
 /// The random source of a case, which depends on nothing but the seed and the case's number.
@@ -38,15 +45,24 @@ impl Draws {
             rules: rule_edges::texts(),
             days: day_edges::cases().into_iter().filter_map(day).collect(),
             jobs: job_edges::jobs(),
+            rule_files: rule_file_edges::files()
+                .into_iter()
+                .filter(|file| file.len() <= LONGEST_FILE)
+                .collect(),
         }
     }
 
     /// A random request.
     pub fn request(&self, random: &mut Random) -> Request {
-        let asked = match random.below(20) {
+        let asked = match random.below(26) {
             0..=4 => self.rule(random),
             5..=9 => self.day(random),
             10..=15 => judgement(random),
+            16..=18 => self.rule_file(random),
+            19..=21 => {
+                let file = self.any_rule_file(random);
+                with_word(random, file)
+            }
             _ => {
                 let job = self.job(random);
                 with_out(random, job)
@@ -92,6 +108,26 @@ impl Draws {
         }
     }
 
+    /// A rule file to read.
+    fn rule_file(&self, random: &mut Random) -> Asked {
+        let file = self.any_rule_file(random);
+        let mut length = |need: usize| match random.below(24) {
+            0 => random.pick(&[0, 1, need / 2, need - 1]),
+            _ => need + random.below(5),
+        };
+        let (lines, nodes) = (length(FILE_LINES), length(FILE_NODES));
+        Asked::RuleFile { file, lines, nodes }
+    }
+
+    /// A rule file, an edge or near to one now and then.
+    fn any_rule_file(&self, random: &mut Random) -> Vec<u8> {
+        if random.one_in(8) {
+            near_edge(random, &self.rule_files)
+        } else {
+            random_rule_files::file(random)
+        }
+    }
+
     /// A job, an edge or near to one now and then.
     pub fn job(&self, random: &mut Random) -> Vec<u8> {
         if random.one_in(8) {
@@ -115,7 +151,7 @@ fn near_edge(random: &mut Random, edges: &[Vec<u8>]) -> Vec<u8> {
         let byte = if random.one_in(2) {
             any_byte(random)
         } else {
-            random.pick(b"aAzZ[_`\n\t01|!*()")
+            random.pick(b"aAzZ[_`\n\t01|!*()<>")
         };
         change_byte(random, &mut bytes, byte, usize::MAX);
     }
@@ -163,6 +199,36 @@ fn at_bounds(random: &mut Random) -> Asked {
         limit: random.pick(&[0, count - 1, count, count + 1, u64::MAX]),
         table: random.pick(&[need - 1, need, need + 5]),
     }
+}
+
+/// A rule file to judge: mostly on a short word, and with a table and a limit about the need.
+fn with_word(random: &mut Random, file: Vec<u8>) -> Asked {
+    let lines = rule_file::read(&file).unwrap_or_default();
+    let text = lines.last().map_or(&b"ab"[..], |line| &line.text);
+    let n = match random.below(24) {
+        0 => random.pick(&LENGTHS),
+        1 => MAX_WORD + 1 + random.below(3),
+        2..=9 => random.below(30),
+        _ => random.below(8),
+    };
+    let mut word = random_calls::word_of(random, text, n);
+    if n > 0 && random.one_in(12) {
+        word[random.below(n)] = random.pick(b"_@[`{<\0\xff");
+    }
+    if lines.is_empty() || n > MAX_WORD || !word.iter().all(|&byte| is_event(byte)) {
+        // Refused, whatever the table and the limit are.
+        return Asked::JudgeFile {
+            file,
+            word,
+            limit: random.pick(&[0, u64::MAX]),
+            table: random.pick(&[0, table::need(0, 2), table::need(MAX_SPECIAL, n)]),
+        };
+    }
+    let call = FileCall::new(file, &word);
+    let (need, count) = (call.need, call.count);
+    let table = random.pick(&[need, need, need, need + 5, need + 5, need - 1]);
+    let limit = random.pick(&[count, count, count + 1, count - 1, u64::MAX, 0]);
+    call.with(table, limit)
 }
 
 /// A job with a buffer for its text: mostly enough, else one byte too few or none.

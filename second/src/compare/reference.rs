@@ -2,9 +2,9 @@
 //!
 //! Each gives its number, or none where a buffer is too short for any answer; then nothing changes.
 
-use super::call::{Call, Callee, NODES, UNANSWERED};
-use crate::rule::{Kind, Node};
-use crate::{day, job, judge, refusal::Reason, rule};
+use super::call::{Call, Callee, FILE_LINES, FILE_NODES, NODES, UNANSWERED};
+use crate::rule::{Kind, Node, Rule};
+use crate::{day, job, judge, refusal::Reason, rule, rule_file};
 
 /// Does a call.
 pub fn run(call: Call<'_>) -> Option<u32> {
@@ -26,8 +26,21 @@ pub fn run(call: Call<'_>) -> Option<u32> {
             limit,
             table,
             answer,
-        } => run_judge(rule, word, limit, table, answer),
+        } => write_judgement(judge::judge, [rule, word], limit, table, answer),
         Call::RunJob { job, out, answer } => run_job(job, out, answer),
+        Call::ReadRuleFile {
+            file,
+            answer,
+            lines,
+            nodes,
+        } => read_rule_file(file, answer, lines, nodes),
+        Call::JudgeRuleFile {
+            file,
+            word,
+            limit,
+            table,
+            answer,
+        } => write_judgement(judge::judge_file, [file, word], limit, table, answer),
     }
 }
 
@@ -45,10 +58,38 @@ fn read_rule(text: &[u8], answer: &mut [u64], nodes: &mut [u64]) -> Option<u32> 
         Err(refusal) => return Some(refuse(answer, refusal.number(), refusal.place)),
     };
     answer.copy_from_slice(&[0, 0, 0, 0, rule.m() as u64, rule.k() as u64]);
+    write_nodes(&rule, nodes);
+    Some(0)
+}
+
+/// Reads a rule file, and writes two numbers for each line and for each node of its rule.
+fn read_rule_file(
+    file: &[u8],
+    answer: &mut [u64],
+    lines: &mut [u64],
+    nodes: &mut [u64],
+) -> Option<u32> {
+    let answer = answer.get_mut(..Callee::ReadRuleFile.answer_length())?;
+    let lines = lines.get_mut(..FILE_LINES)?;
+    let nodes = nodes.get_mut(..FILE_NODES)?;
+    let read = match rule_file::read(file) {
+        Ok(read) => read,
+        Err(refusal) => return Some(refuse(answer, refusal.number(), refusal.place)),
+    };
+    answer.copy_from_slice(&[0, 0, 0, 0, read.len() as u64]);
+    let lent = lines.chunks_exact_mut(2).zip(nodes.chunks_exact_mut(NODES));
+    for ((sizes, nodes), line) in lent.zip(&read) {
+        sizes.copy_from_slice(&[line.rule.m() as u64, line.rule.k() as u64]);
+        write_nodes(&line.rule, nodes);
+    }
+    Some(0)
+}
+
+/// Writes two numbers for each node of a rule.
+fn write_nodes(rule: &Rule, nodes: &mut [u64]) {
     for (numbers, node) in nodes.chunks_exact_mut(2).zip(&rule.nodes) {
         numbers.copy_from_slice(&record(node));
     }
-    Some(0)
 }
 
 /// A node as the C interface writes it: its offset and the number of its kind.
@@ -81,10 +122,13 @@ fn read_day(
     Some(0)
 }
 
-/// Judges a word and writes the table.
-fn run_judge(
-    rule: &[u8],
-    word: &[u8],
+/// One of the two judges, of a rule text or of a rule file.
+type Judge = fn(&[u8], &[u8], u64, &mut [u64]) -> judge::Answer;
+
+/// Judges a word by a rule text or a rule file, and writes the table.
+fn write_judgement(
+    judge: Judge,
+    [by, word]: [&[u8]; 2],
     limit: u64,
     table: &mut [u64],
     answer: &mut [u64],
@@ -95,7 +139,7 @@ fn run_judge(
         place,
         found,
         count,
-    } = judge::judge(rule, word, limit, table);
+    } = judge(by, word, limit, table);
     answer.copy_from_slice(&[number.into(), place as u64, found, count]);
     Some(number)
 }

@@ -37,6 +37,17 @@ pub enum Asked {
         job: Vec<u8>,
         out: usize,
     },
+    RuleFile {
+        file: Vec<u8>,
+        lines: usize,
+        nodes: usize,
+    },
+    JudgeFile {
+        file: Vec<u8>,
+        word: Vec<u8>,
+        limit: u64,
+        table: usize,
+    },
 }
 
 impl Asked {
@@ -74,13 +85,20 @@ impl Asked {
             Asked::Day { .. } => Callee::ReadDay,
             Asked::Judge { .. } => Callee::Judge,
             Asked::Job { .. } => Callee::RunJob,
+            Asked::RuleFile { .. } => Callee::ReadRuleFile,
+            Asked::JudgeFile { .. } => Callee::JudgeRuleFile,
         }
     }
 }
 
+/// The most bytes that are shown; only a file that is refused has more.
+const MOST_SHOWN: usize = 10_000;
+
 /// Bytes with their number, escaped.
 pub fn shown_bytes(bytes: &[u8]) -> String {
-    format!("\"{}\" ({} bytes)", bytes.escape_ascii(), bytes.len())
+    let shown = &bytes[..bytes.len().min(MOST_SHOWN)];
+    let cut = if shown.len() < bytes.len() { ".." } else { "" };
+    format!("\"{}\"{cut} ({} bytes)", shown.escape_ascii(), bytes.len())
 }
 
 impl fmt::Display for Asked {
@@ -108,6 +126,20 @@ impl fmt::Display for Asked {
                 write!(formatter, "limit {limit}, table of {table}")
             }
             Asked::Job { job, out } => write!(formatter, "job {}, out of {out}", shown_bytes(job)),
+            Asked::RuleFile { file, lines, nodes } => {
+                write!(formatter, "file {}, ", shown_bytes(file))?;
+                write!(formatter, "lines of {lines}, nodes of {nodes}")
+            }
+            Asked::JudgeFile {
+                file,
+                word,
+                limit,
+                table,
+            } => {
+                let (file, word) = (shown_bytes(file), shown_bytes(word));
+                write!(formatter, "file {file}, word {word}, ")?;
+                write!(formatter, "limit {limit}, table of {table}")
+            }
         }
     }
 }

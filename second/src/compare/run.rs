@@ -3,7 +3,7 @@
 use std::fmt::Display;
 use std::io::{self, Write};
 
-use super::call::Callee;
+use super::call::Required;
 use super::check::Checked;
 use super::tally::Tally;
 
@@ -62,9 +62,9 @@ impl<'a> Run<'a> {
         Ok(())
     }
 
-    /// Prints the summary, where each kind that these callees lack is a failure; tells whether all
+    /// Prints the summary, where each required kind that never came is a failure; tells whether all
     /// is well.
-    pub fn finish(mut self, required: &[Callee]) -> io::Result<bool> {
+    pub fn finish(mut self, required: &[Required]) -> io::Result<bool> {
         write!(self.output, "{}", self.tally)?;
         if self.is_over() {
             // What did not come might still have come.
@@ -78,8 +78,8 @@ impl<'a> Run<'a> {
         Ok(failed == 0 && passed > 0)
     }
 
-    /// Counts each kind that came for none of these callees' cases.
-    fn add_missing(&mut self, required: &[Callee]) -> io::Result<()> {
+    /// Counts each required kind that never came.
+    fn add_missing(&mut self, required: &[Required]) -> io::Result<()> {
         for kind in self.tally.missing(required) {
             writeln!(self.output, "MISSING: {kind}")?;
             self.failed += 1;

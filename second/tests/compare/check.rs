@@ -1,10 +1,13 @@
 //! One call and its comparison: libraries that do one thing wrong are found.
 
-use second::compare::call::{Call, Kind, NODES};
+use second::compare::call::{Call, Kind, FILE_LINES, FILE_NODES, NODES};
 use second::compare::check::check;
 use second::compare::lent::Dirt;
 use second::compare::reference;
-use second::compare::request::{Asked, Request};
+use second::compare::request::{shown_bytes, Asked, Request};
+
+/// A rule file whose second line is `!(a)` after replacement.
+const TWO_LINES: &[u8] = b"R\tx\ta\nR\ty\t!<x>\n";
 
 /// What a library does after it has done a call rightly.
 type Mistake = fn(&mut Call);
@@ -76,6 +79,30 @@ pub fn borrowed<'a>(call: &'a mut Call<'_>) -> Call<'a> {
             answer,
         },
         Call::RunJob { job, out, answer } => Call::RunJob { job, out, answer },
+        Call::ReadRuleFile {
+            file,
+            answer,
+            lines,
+            nodes,
+        } => Call::ReadRuleFile {
+            file,
+            answer,
+            lines,
+            nodes,
+        },
+        Call::JudgeRuleFile {
+            file,
+            word,
+            limit,
+            table,
+            answer,
+        } => Call::JudgeRuleFile {
+            file,
+            word,
+            limit: *limit,
+            table,
+            answer,
+        },
     }
 }
 
@@ -85,7 +112,9 @@ pub fn answer<'a>(call: &'a mut Call<'_>) -> &'a mut [u64] {
         Call::ReadRule { answer, .. }
         | Call::ReadDay { answer, .. }
         | Call::Judge { answer, .. }
-        | Call::RunJob { answer, .. } => answer,
+        | Call::RunJob { answer, .. }
+        | Call::ReadRuleFile { answer, .. }
+        | Call::JudgeRuleFile { answer, .. } => answer,
     }
 }
 
@@ -124,9 +153,35 @@ fn job(out: usize) -> Asked {
     }
 }
 
+/// Reads a file of two lines with two nodes each.
+fn rule_file(lines: usize) -> Asked {
+    Asked::RuleFile {
+        file: TWO_LINES.to_vec(),
+        lines,
+        nodes: FILE_NODES + 3,
+    }
+}
+
+/// Judges by the last of two lines, with a table of 16 needed numbers and 5 more; the count is 7.
+fn file_judgement(limit: u64) -> Asked {
+    Asked::JudgeFile {
+        file: TWO_LINES.to_vec(),
+        word: b"a".to_vec(),
+        limit,
+        table: 21,
+    }
+}
+
 /// One of each call, accepted.
-fn all() -> [Asked; 4] {
-    [rule(), day(3, 4), judgement(7), job(40)]
+fn all() -> [Asked; 6] {
+    [
+        rule(),
+        day(3, 4),
+        judgement(7),
+        job(40),
+        rule_file(FILE_LINES + 2),
+        file_judgement(7),
+    ]
 }
 
 #[test]
@@ -152,6 +207,9 @@ fn the_number_that_should_come_is_told() {
     assert_eq!(kind(judgement(6), 4), Kind::Number(10));
     assert_eq!(kind(judgement(6), 3), Kind::Unanswered);
     assert_eq!(kind(job(0), 5), Kind::Number(15));
+    assert_eq!(kind(rule_file(31), 5), Kind::Unanswered);
+    assert_eq!(kind(rule_file(32), 5), Kind::Number(0));
+    assert_eq!(kind(file_judgement(6), 4), Kind::Number(10));
 }
 
 #[test]
@@ -174,7 +232,8 @@ fn a_library_that_does_nothing_differs() {
 fn the_returned_number_is_compared() {
     let calls = [rule(), day(3, 4), day(0, 4), judgement(7), judgement(6)];
     let mut calls = calls.to_vec();
-    calls.extend([job(40), job(0)]);
+    calls.extend([job(40), job(0), rule_file(FILE_LINES)]);
+    calls.extend([file_judgement(7), file_judgement(6)]);
     let place = |asked: &Asked, answer, changed| place_of(asked.clone(), answer, |_| (), changed);
     let found = Some("the number returned".to_string());
     for asked in &calls {
@@ -229,8 +288,17 @@ fn every_buffer_is_compared_to_its_last_element() {
         Call::ReadDay { letters, .. } => *letters.last_mut().unwrap() ^= 1,
         Call::Judge { table, .. } => *table.last_mut().unwrap() ^= 1,
         Call::RunJob { out, .. } => *out.last_mut().unwrap() ^= 1,
+        Call::ReadRuleFile { nodes, .. } => *nodes.last_mut().unwrap() ^= 1,
+        Call::JudgeRuleFile { table, .. } => *table.last_mut().unwrap() ^= 1,
     };
-    let places = ["nodes[129]", "letters[2]", "table[20]", "out[39]"];
+    let places = [
+        "nodes[129]",
+        "letters[2]",
+        "table[20]",
+        "out[39]",
+        "nodes[2050]",
+        "table[20]",
+    ];
     for (asked, expected) in all().into_iter().zip(places) {
         // With an answer that is long enough and with one that is not.
         for length in [8, 3] {
@@ -243,6 +311,11 @@ fn every_buffer_is_compared_to_its_last_element() {
         _ => unreachable!("a day is read"),
     });
     assert!(found.unwrap().starts_with("seconds[3]"));
+    let found = place(rule_file(FILE_LINES + 2), 5, |call| match call {
+        Call::ReadRuleFile { lines, .. } => lines[FILE_LINES + 1] ^= 1,
+        _ => unreachable!("a rule file is read"),
+    });
+    assert!(found.unwrap().starts_with("lines[33]"));
 }
 
 #[test]
@@ -264,15 +337,25 @@ fn a_buffer_touched_on_a_refusal_is_found() {
         ("table[16]", |call| change_table(call, 16)),
     ];
     for (expected, mistake) in mistakes {
-        let found = place(judgement(6), 4, mistake);
-        assert!(found.unwrap().starts_with(expected));
+        for asked in [judgement(6), file_judgement(6)] {
+            let found = place(asked, 4, mistake);
+            assert!(found.unwrap().starts_with(expected));
+        }
     }
 }
 
 /// Changes one bit of the table.
 fn change_table(call: &mut Call, at: usize) {
     match call {
-        Call::Judge { table, .. } => table[at] ^= 1,
+        Call::Judge { table, .. } | Call::JudgeRuleFile { table, .. } => table[at] ^= 1,
         _ => unreachable!("a word is judged"),
     }
+}
+
+#[test]
+fn very_long_bytes_are_shown_in_part() {
+    assert_eq!(shown_bytes(b"R\tx"), "\"R\\tx\" (3 bytes)");
+    let shown = shown_bytes(&[b'a'; 1_000_000]);
+    let beginning = "a".repeat(10_000);
+    assert_eq!(shown, format!("\"{beginning}\".. (1000000 bytes)"));
 }

@@ -143,7 +143,7 @@ fn a_number_that_never_came_is_a_failure() {
             run.add(&label, &[(checked, &"a day")]).unwrap();
         }
     }
-    assert!(!run.finish(&[Callee::ReadDay]).unwrap());
+    assert!(!run.finish(&[Callee::ReadDay.required()]).unwrap());
     let text = String::from_utf8(output).unwrap();
     assert!(text.contains("MISSING: wuz_read_day never had refusal 14\n"));
     assert_eq!(last_line(&text), "8 passed, 1 failed");
@@ -153,7 +153,7 @@ fn a_number_that_never_came_is_a_failure() {
 fn a_trouble_that_never_came_is_a_failure() {
     let mut output = Vec::new();
     let run = Run::new(&mut output);
-    assert!(!run.finish(&[Callee::Troubled]).unwrap());
+    assert!(!run.finish(&[Callee::Troubled.required()]).unwrap());
     let text = String::from_utf8(output).unwrap();
     assert!(text.contains("MISSING: the program in trouble never had input closed\n"));
     assert_eq!(last_line(&text), "0 passed, 15 failed");

@@ -2,13 +2,13 @@
 
 use std::collections::BTreeSet;
 
-use second::compare::call::NODES;
+use second::compare::call::{FILE_LINES, FILE_NODES, NODES};
 use second::compare::lent::Dirt;
 use second::compare::random_requests::{source, Draws};
 use second::compare::request::{Asked, Request};
 use second::job;
-use second::judge::judge;
-use second::rule;
+use second::judge::{judge, judge_file};
+use second::{rule, rule_file};
 
 /// Draws the first requests of a seed.
 fn requests(seed: u64, count: usize) -> Vec<Request> {
@@ -124,6 +124,45 @@ fn note_job(bounds: &mut BTreeSet<String>, bytes: &[u8], out: usize) {
     }
 }
 
+/// Notes the bounds of a rule file.
+fn note_file(bounds: &mut BTreeSet<String>, file: &[u8]) {
+    let lines = match rule_file::read(file) {
+        Ok(lines) => lines,
+        Err(refusal) => return note(bounds, true, format!("file {}", refusal.number())),
+    };
+    note(bounds, lines.len() == 1, "1 rule");
+    note(bounds, lines.len() == 16, "16 rules");
+    note(bounds, file.contains(&b'<'), "file with names");
+    let last = lines.last().unwrap();
+    note(bounds, last.name.len() == 12, "name of 12");
+    note(bounds, last.text.len() > 110_000, "long text");
+    note(bounds, last.text.starts_with(&[b'('; 1_800]), "1800 nested");
+    note(bounds, last.rule.m() == 64, "file m 64");
+    note(bounds, last.rule.k() == 7, "file k 7");
+}
+
+/// Notes the bounds of a judge call with a rule file.
+fn note_file_judge(
+    bounds: &mut BTreeSet<String>,
+    file: &[u8],
+    word: &[u8],
+    limit: u64,
+    table: usize,
+) {
+    let n = word.len();
+    note(bounds, n >= 255, format!("file n {n}"));
+    let Ok(rule) = rule_file::read_last(file) else {
+        return;
+    };
+    let need = (rule.k() + 1) * (n + 1) * 4;
+    note(bounds, table + 1 == need, "file table short");
+    note(bounds, table == need, "file table exact");
+    note(bounds, table == need + 5, "file table long");
+    let count = judge_file(file, word, u64::MAX, &mut vec![0; need]).count;
+    note(bounds, limit.wrapping_add(1) == count, "file limit below");
+    note(bounds, limit == count, "file limit exact");
+}
+
 #[test]
 fn every_bound_is_drawn() {
     let mut bounds = BTreeSet::new();
@@ -148,6 +187,19 @@ fn every_bound_is_drawn() {
             } if *limit < u64::MAX => note_judge(&mut bounds, rule, word, *limit, *table),
             Asked::Judge { .. } => note(&mut bounds, true, "limit highest"),
             Asked::Job { job, out } => note_job(&mut bounds, job, *out),
+            Asked::RuleFile { file, lines, nodes } => {
+                note_file(&mut bounds, file);
+                note(&mut bounds, *lines < FILE_LINES, "lines short");
+                note(&mut bounds, *lines > FILE_LINES, "lines long");
+                note(&mut bounds, *nodes < FILE_NODES, "file nodes short");
+                note(&mut bounds, *nodes > FILE_NODES, "file nodes long");
+            }
+            Asked::JudgeFile {
+                file,
+                word,
+                limit,
+                table,
+            } => note_file_judge(&mut bounds, file, word, *limit, *table),
         }
     }
     let expected =
@@ -159,7 +211,11 @@ fn every_bound_is_drawn() {
         limit highest;job beyond;job with NUL;job with high byte;job with CR;out none;out short;\
         out exact;out long;job 1;job 2;job 3;job 4;job 5;job 6;job 11;job 12;job 13;job 14;job 16;\
         ones;noise;answer short;answer long;rule with capital;capitals;word with capital;\
-        job with capital;day with capital";
+        job with capital;day with capital;file 1;file 2;file 3;file 4;file 5;file 6;file 16;\
+        file 17;file 18;file 19;1 rule;16 rules;file with names;name of 12;long text;1800 nested;\
+        file m 64;file k 7;lines short;lines long;file nodes short;file nodes long;file n 255;\
+        file n 256;file table short;file table exact;file table long;file limit below;\
+        file limit exact";
     for bound in expected.split(';') {
         assert!(bounds.contains(bound), "{bound} was not drawn");
     }

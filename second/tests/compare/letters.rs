@@ -36,6 +36,24 @@ fn of_judge(rule: &[u8], word: &[u8], number: u32, place: usize) -> Vec<Letters>
     shown(&judge, number, place)
 }
 
+/// What a rule file shows if it is read, and if a word is judged by it.
+fn of_file(file: &[u8], number: u32, place: usize) -> Vec<Letters> {
+    let read = Asked::RuleFile {
+        file: file.to_vec(),
+        lines: 32,
+        nodes: 2_048,
+    };
+    let judged = Asked::JudgeFile {
+        file: file.to_vec(),
+        word: b"a".to_vec(),
+        limit: 9,
+        table: 99,
+    };
+    let [read, judged] = [read, judged].map(|asked| shown(&asked, number, place));
+    assert_eq!(read, judged);
+    read
+}
+
 /// What a job shows.
 fn of_job(job: &[u8], number: u32, place: usize) -> Vec<Letters> {
     let (job, out) = (job.to_vec(), 99);
@@ -57,6 +75,10 @@ fn capitals_are_seen_in_what_is_accepted() {
     let in_both = [Letters::CapitalInRule, Letters::CapitalInDay];
     assert_eq!(of_job(b"R\tA\nE\t0\tE\n", 0, 0), in_both);
     assert_eq!(of_job(b"R\ta\nE\t0\ta\n", 0, 0), []);
+    let in_rule = [Letters::CapitalInRule];
+    assert_eq!(of_file(b"R\tx\tA\nR\ty\ta\n", 0, 0), in_rule);
+    assert_eq!(of_file(b"R\tx\ta\nR\ty\t<x>\n", 0, 0), []);
+    assert_eq!(of_file(b"R\tx\tA\nR\ty\t<z>\n", 17, 2), []);
 }
 
 #[test]
@@ -70,6 +92,17 @@ fn bytes_between_the_cases_are_seen_where_they_are_refused() {
         assert_eq!(of_rule(&[b'a', byte], 3, 1), rule);
         assert_eq!(of_judge(&[b'a', byte], b"", 3, 1), rule);
         assert_eq!(of_judge(b"a", &[byte], 8, 0), only(Letters::BetweenInWord));
+        // A newline would end the rule, and a good byte leaves the one behind it to be refused.
+        if byte != b'\n' {
+            let file = [b"R\tx\ta\nR\ty\t<x>", &[byte][..], b"_\n"].concat();
+            let is_good = byte.is_ascii_alphabetic() || b"01|&!*()<>".contains(&byte);
+            let in_file = if is_good {
+                vec![Letters::BetweenInRule]
+            } else {
+                rule
+            };
+            assert_eq!(of_file(&file, 3, 2), in_file, "byte {byte}");
+        }
         let day = [b"E\t0\ta\nE\t1\t", &[byte][..], b"\n"].concat();
         let in_day = only(Letters::BetweenInDay);
         assert_eq!(of_day(&day, 12, 2), in_day);
@@ -95,7 +128,8 @@ fn bytes_between_the_cases_are_seen_where_they_are_refused() {
 fn what_is_never_shown_is_a_failure() {
     let mut output = Vec::new();
     let run = Run::new(&mut output);
-    assert!(!run.finish(&[Callee::Judge, Callee::Program]).unwrap());
+    let required = [Callee::Judge, Callee::Program].map(Callee::required);
+    assert!(!run.finish(&required).unwrap());
     let text = String::from_utf8(output).unwrap();
     for missing in [
         "wuz_judge never had accepted, rule with capital",
@@ -109,7 +143,7 @@ fn what_is_never_shown_is_a_failure() {
     }
     let shown = |kind: &Kind| matches!(kind, Kind::Shown(_));
     let count = |callee: Callee| callee.kinds().iter().filter(|kind| shown(kind)).count();
-    assert_eq!(Callee::LIBRARY.map(count), [2, 2, 4, 4]);
+    assert_eq!(Callee::LIBRARY.map(count), [2, 2, 4, 4, 2, 4]);
 }
 
 /// Places in a rule, in a word and in a day; the question mark stands for the byte.
@@ -124,6 +158,22 @@ const DAY_PLACES: [&str; 4] = [
     "E\t5\ta\nE\t5\t?\n",
 ];
 
+/// Places in a rule file: tag, tabs, name, rule, the name within it, and newline.
+const FILE_PLACES: [&str; 12] = [
+    "?\tx\ta\n",
+    "R?x\ta\n",
+    "R\t?\ta\n",
+    "R\tx?\ta\n",
+    "R\tx?a\n",
+    "R\tx\t?\n",
+    "R\tx\ta?b\n",
+    "R\tx\ta?",
+    "R\tx\ta\nR\ty\t<?>\n",
+    "R\tx\ta\nR\ty\t?x>\n",
+    "R\tx\ta\nR\ty\t<x?\n",
+    "R\tx\ta\nR\ty\t<x>?R\tz\tb\n",
+];
+
 /// All that the edges ask, by what reads it.
 #[derive(Default)]
 struct AllAsked {
@@ -134,6 +184,8 @@ struct AllAsked {
     judged_words: HashSet<Vec<u8>>,
     job_rules: HashSet<Vec<u8>>,
     job_days: HashSet<Vec<u8>>,
+    rule_files: HashSet<Vec<u8>>,
+    judged_files: HashSet<Vec<u8>>,
 }
 
 impl AllAsked {
@@ -154,6 +206,8 @@ impl AllAsked {
                     self.job_days.insert(day.to_vec());
                 }
             }
+            Asked::RuleFile { file, .. } => drop(self.rule_files.insert(file)),
+            Asked::JudgeFile { file, .. } => drop(self.judged_files.insert(file)),
         }
     }
 }
@@ -186,6 +240,10 @@ fn every_byte_is_asked_at_every_place() {
         for place in DAY_PLACES {
             check_asked(&asked.days, place, byte);
             check_asked(&asked.job_days, place, byte);
+        }
+        for place in FILE_PLACES {
+            check_asked(&asked.rule_files, place, byte);
+            check_asked(&asked.judged_files, place, byte);
         }
     }
 }

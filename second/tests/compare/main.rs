@@ -4,11 +4,14 @@
 mod check;
 mod commands;
 mod draws;
+mod file_verdict;
 mod jobs;
 mod lent;
 mod letters;
+mod names;
 mod program;
 mod reference;
 mod scripts;
 mod trouble;
+mod wrong_files;
 mod wrong_letters;

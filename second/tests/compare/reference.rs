@@ -42,6 +42,40 @@ fn run_job(job: &[u8], out: usize) -> (Option<u32>, Vec<u64>, Vec<u8>) {
     (number, answer, out)
 }
 
+/// Reads a rule file; gives the number, the answer, the lines and the nodes.
+fn read_rule_file(
+    file: &[u8],
+    [answer, lines, nodes]: [usize; 3],
+) -> (Option<u32>, Vec<u64>, Vec<u64>, Vec<u64>) {
+    let [mut answer, mut lines, mut nodes] =
+        [answer, lines, nodes].map(|length| vec![KEPT; length]);
+    let number = run(Call::ReadRuleFile {
+        file,
+        answer: &mut answer,
+        lines: &mut lines,
+        nodes: &mut nodes,
+    });
+    (number, answer, lines, nodes)
+}
+
+/// Judges a word by a rule file; gives the number, the answer and the table.
+fn judge_rule_file(
+    file: &[u8],
+    word: &[u8],
+    limit: u64,
+    [answer, table]: [usize; 2],
+) -> (Option<u32>, Vec<u64>, Vec<u64>) {
+    let [mut answer, mut table] = [answer, table].map(|length| vec![KEPT; length]);
+    let number = run(Call::JudgeRuleFile {
+        file,
+        word,
+        limit,
+        table: &mut table,
+        answer: &mut answer,
+    });
+    (number, answer, table)
+}
+
 #[test]
 fn a_rule_has_two_numbers_for_each_node() {
     let (number, answer, nodes) = read_rule(b"!(a0)*|1&Z", 8, 130);
@@ -144,4 +178,77 @@ fn a_job_writes_its_text() {
         run_job(b"R\ta\nE\t86400\ta\n", 0),
         (Some(13), refused, vec![])
     );
+}
+
+#[test]
+fn a_rule_file_has_two_numbers_for_each_line_and_each_node() {
+    let file = b"R\tx\ta\nR\ty\t!<x>&<x><x>*\n";
+    let (number, answer, lines, nodes) = read_rule_file(file, [6, 33, 2_050]);
+    assert_eq!((number, answer), (Some(0), vec![0, 0, 0, 0, 2, KEPT]));
+    assert_eq!(lines[..4], [1, 0, 7, 2]);
+    assert_eq!(lines[4..], [KEPT; 29]);
+    assert_eq!(nodes[..2], [0, 97]);
+    assert_eq!(nodes[2..128], [KEPT; 126]);
+    let second = [2, 97, 0, 5, 6, 97, 9, 97, 11, 6, 8, 4, 4, 3];
+    assert_eq!(nodes[128..142], second);
+    assert_eq!(nodes[142..], [KEPT; 1_908]);
+}
+
+#[test]
+fn the_last_of_sixteen_lines_has_the_last_nodes() {
+    let line = |number: u8| [b"R\t", &[b'a' + number][..], b"\t", &[b'A' + number], b"\n"].concat();
+    let file: Vec<u8> = (0..16).flat_map(line).collect();
+    let (number, answer, lines, nodes) = read_rule_file(&file, [5, 32, 2_048]);
+    assert_eq!((number, answer), (Some(0), vec![0, 0, 0, 0, 16]));
+    assert_eq!(lines, [1, 0].repeat(16));
+    for (line, nodes) in nodes.chunks(128).enumerate() {
+        assert_eq!(nodes[..2], [0, 65 + line as u64]);
+        assert_eq!(nodes[2..], [KEPT; 126]);
+    }
+}
+
+#[test]
+fn a_refused_rule_file_leaves_the_lines_and_the_nodes() {
+    let file = b"R\tx\ta\nR\tx\t)\n";
+    let (number, answer, lines, nodes) = read_rule_file(file, [6, 32, 2_048]);
+    assert_eq!((number, answer), (Some(18), vec![18, 2, 0, 0, 0, KEPT]));
+    assert_eq!((lines, nodes), (vec![KEPT; 32], vec![KEPT; 2_048]));
+}
+
+#[test]
+fn a_rule_file_without_room_for_its_answer_is_left() {
+    for file in [&b"R\tx\ta\n"[..], b""] {
+        for lengths in [[4, 32, 2_048], [5, 31, 2_048], [5, 32, 2_047], [0, 0, 0]] {
+            let [answer, lines, nodes] = lengths.map(|length| vec![KEPT; length]);
+            let left = (None, answer, lines, nodes);
+            assert_eq!(read_rule_file(file, lengths), left);
+        }
+        let left = (None, vec![KEPT; 3], vec![KEPT; 99]);
+        assert_eq!(judge_rule_file(file, b"a", 9, [3, 99]), left);
+    }
+}
+
+#[test]
+fn a_rule_file_is_judged_by_its_last_line() {
+    let file = b"R\tx\ta|b\nR\ty\t<x>c\n";
+    let (number, answer, table) = judge_rule_file(file, b"acbc", 30, [5, 22]);
+    assert_eq!((number, answer), (Some(0), vec![0, 0, 2, 30, KEPT]));
+    // Spans (0, 2) and (2, 4).
+    let mut expected = [0; 20];
+    (expected[0], expected[8]) = (4, 16);
+    assert_eq!(table, [&expected[..], &[KEPT; 2]].concat());
+    let (number, answer, table) = judge_rule_file(file, b"acbc", 29, [4, 21]);
+    assert_eq!((number, answer), (Some(10), vec![10, 0, 0, 29]));
+    assert_eq!(table, [&[0; 20][..], &[KEPT]].concat());
+    for (word, length, refused) in [
+        (&b"acbc"[..], 19, vec![9, 0, 0, 0]),
+        (b"ac_c", 0, vec![8, 2, 0, 0]),
+        (&[b'_'; 256], 0, vec![7, 0, 0, 0]),
+    ] {
+        let (number, answer, table) = judge_rule_file(file, word, 0, [4, length]);
+        assert_eq!((number, &answer), (Some(answer[0] as u32), &refused));
+        assert_eq!(table, vec![KEPT; length]);
+    }
+    let (number, answer, _) = judge_rule_file(b"R\tx\ta\nR\ty\t<z>\n", &[b'_'; 256], 0, [4, 0]);
+    assert_eq!((number, answer), (Some(17), vec![17, 2, 0, 0]));
 }

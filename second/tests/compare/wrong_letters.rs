@@ -11,7 +11,8 @@ use second::day;
 use second::job::split_job;
 use second::language::spans_of_nodes;
 use second::limits::MAX_DAY_LINES;
-use second::rule::{read, Kind};
+use second::rule::{read, Kind, Rule};
+use second::rule_file::read_last;
 
 use crate::check::{answer, borrowed};
 
@@ -44,6 +45,23 @@ fn taken_job(job: &[u8], mistake: Mistake) -> Vec<u8> {
     [b"R\t", &rule[..], b"\n", &day].concat()
 }
 
+/// The bytes of a rule file as the library takes them: only what stands in a rule is changed, and
+/// not in a name there.
+fn taken_file(file: &[u8], mistake: Mistake) -> Vec<u8> {
+    let (mut tabs, mut in_name) = (0, false);
+    let taken = file.iter().map(|&byte| {
+        match byte {
+            b'\n' => (tabs, in_name) = (0, false),
+            b'\t' => tabs += 1,
+            b'<' | b'>' => in_name = byte == b'<',
+            _ if tabs >= 2 && !in_name => return mistake(byte),
+            _ => {}
+        }
+        byte
+    });
+    taken.collect()
+}
+
 /// What a library does with a call that makes the mistake in it.
 fn done_wrong(call: Call, mistake: Mistake) -> u64 {
     let (first, second) = match &call {
@@ -51,6 +69,8 @@ fn done_wrong(call: Call, mistake: Mistake) -> u64 {
         Call::ReadDay { file, .. } => (taken_day(file, mistake), Vec::new()),
         Call::Judge { rule, word, .. } => (taken(rule, mistake), taken(word, mistake)),
         Call::RunJob { job, .. } => (taken_job(job, mistake), Vec::new()),
+        Call::ReadRuleFile { file, .. } => (taken_file(file, mistake), Vec::new()),
+        Call::JudgeRuleFile { file, word, .. } => (taken_file(file, mistake), taken(word, mistake)),
     };
     let mut call = call;
     match &mut call {
@@ -58,6 +78,8 @@ fn done_wrong(call: Call, mistake: Mistake) -> u64 {
         Call::ReadDay { file, .. } => *file = &first,
         Call::Judge { rule, word, .. } => (*rule, *word) = (&first, &second),
         Call::RunJob { job, .. } => *job = &first,
+        Call::ReadRuleFile { file, .. } => *file = &first,
+        Call::JudgeRuleFile { file, word, .. } => (*file, *word) = (&first, &second),
     }
     reference::returned(reference::run(call))
 }
@@ -83,20 +105,20 @@ fn small_complements(_: &str, mut call: Call) -> u64 {
 /// How many spans an accepted call should find that the library above does not.
 fn lost_by(call: &Call) -> u64 {
     match call {
-        Call::ReadRule { .. } | Call::ReadDay { .. } => 0,
-        Call::Judge { rule, word, .. } => lost(rule, word),
+        Call::ReadRule { .. } | Call::ReadDay { .. } | Call::ReadRuleFile { .. } => 0,
+        Call::Judge { rule, word, .. } => lost(read(rule).unwrap(), word),
+        Call::JudgeRuleFile { file, word, .. } => lost(read_last(file).unwrap(), word),
         Call::RunJob { job, .. } => {
             let (rule, day) = split_job(job).unwrap();
             let mut letters = [0; MAX_DAY_LINES];
             let n = day::read(day, &mut letters, &mut [0; MAX_DAY_LINES]).unwrap();
-            lost(rule, &letters[..n])
+            lost(read(rule).unwrap(), &letters[..n])
         }
     }
 }
 
 /// How many spans with a capital obey a rule, if it is a complement with no other special node.
-fn lost(rule: &[u8], word: &[u8]) -> u64 {
-    let rule = read(rule).unwrap();
+fn lost(rule: Rule, word: &[u8]) -> u64 {
     let head = rule.head();
     if rule.k() != 1 || !matches!(rule.nodes[head].kind, Kind::Complement(_)) {
         return 0;
@@ -116,6 +138,8 @@ fn short_edges() -> Vec<Request> {
         Asked::Day { file, .. } => file.len(),
         Asked::Judge { rule, word, .. } => rule.len() + word.len(),
         Asked::Job { job, .. } => job.len(),
+        Asked::RuleFile { file, .. } => file.len(),
+        Asked::JudgeFile { file, word, .. } => file.len() + word.len(),
     };
     let edges = requests().into_iter();
     edges.filter(|request| length(request) < 40).collect()
@@ -180,6 +204,6 @@ fn the_edges_find_a_library_with_small_complements() {
     // Of three spans (0, 1) is lost, and of seven places one.
     assert_eq!(answer, [0, 0, 2, 6]);
     // Only the calls that do not judge cannot show it.
-    let readers = [Callee::ReadRule, Callee::ReadDay];
+    let readers = [Callee::ReadRule, Callee::ReadDay, Callee::ReadRuleFile];
     assert_eq!(not_found(&short_edges(), &small_complements), readers);
 }
