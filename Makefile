@@ -16,7 +16,7 @@ help:
 
 EXAMPLE ?= examples/held_open.job
 run:
-	@echo "proving what is not proved yet: 4 to 7 minutes the first time, a line for each of 19 crates"
+	@echo "proving what is not proved yet: 5 to 8 minutes the first time, a line for each of 22 crates"
 	@rt check checker | grep --line-buffered -E '^rt:|error'
 	@echo "the job, $(EXAMPLE):"
 	@cat $(EXAMPLE)
