@@ -90,8 +90,8 @@ uint64_t wuz_read_rule(const uint8_t *text, size_t text_len, uint64_t *answer, s
 
 /* Reads a rule file. answer (5): number, place, 0, 0, r: the file has r lines.
  * lines (32 at least): on acceptance the first 2 * r are written, m and k of each line. nodes (2,048 at least): on acceptance the nodes of
- * each line are written as wuz_read_rule writes them; those of line l, from 0, begin at element 128 * l. An offset is below
- * 261,120, and can be over 65,535.
+ * each line are written as wuz_read_rule writes them; those of line l, from 0, begin at element 128 * l. An offset can be over
+ * 65,535.
  * Nothing else is touched.
  * Numbers: 0 to 6, 16 to 19. */
 uint64_t wuz_read_rule_file(const uint8_t *file, size_t file_len, uint64_t *answer, size_t answer_len, uint64_t *lines, size_t lines_len,
