@@ -1,19 +1,19 @@
 //! The days that walk document 01's edges.
 
-use crate::letter_edges;
 use crate::limits::{LAST_SECOND, LETTERS, MAX_DAY_BYTES, MAX_DAY_LINES};
 use crate::lines::{good_line, joined, Line, WRONG};
 use crate::stream::Case;
+use crate::{hour_edges, letter_edges};
 
 /// Days of a few lines that document 01's text about seconds and about order asks for.
-const SHORT: [&[u8]; 37] = [
+const SHORT: [&[u8]; 36] = [
     b"",
     b"E\t0\ta\n",
     b"E\t0\ta\nE\t0\ta\n",
     b"E\t7\tz\nE\t7\ty\nE\t7\tz\n",
     b"E\t9\ta\nE\t10\ta\n",
     b"E\t99\ta\nE\t100\tb\nE\t1000\tc\nE\t10000\td\n",
-    b"E\t0\ta\nE\t86399\tb\nE\t86399\tc\n",
+    b"E\t0\ta\nE\t89999\tb\nE\t89999\tc\n",
     b"E\t0\ta\nE\t0\tA\nE\t0\tz\nE\t0\tZ\n",
     // Tags stand as letters, and are tags by their place alone.
     b"E\t0\tE\n",
@@ -23,45 +23,44 @@ const SHORT: [&[u8]; 37] = [
     // The second falls.
     b"E\t10\ta\nE\t9\ta\n",
     b"E\t1\ta\nE\t0\ta\n",
-    b"E\t86399\ta\nE\t86398\ta\n",
     b"E\t1\ta\nE\t5\tb\nE\t4\tc\n",
     b"E\t5\ta\nE\t1\tb\nE\t3\tc\n",
     b"E\t65536\ta\nE\t1\tb\n",
     // A capital is no fault of the form: 13, not 12.
-    b"E\t86400\tA\n",
+    b"E\t90000\tA\n",
     b"E\t5\ta\nE\t4\tA\n",
     // In one line 12 comes before 13.
-    b"E\t86400\t_\n",
+    b"E\t90000\t_\n",
     b"E\t99999\ta",
-    b"E\t86400\ta\r\n",
+    b"E\t90000\ta\r\n",
     b"E\t5\ta\nE\t4\t_\n",
     b"E\t5\ta\nE\t4\taa\n",
     b"E\t5\ta\nE\t4\ta",
     b"E\t5\ta\nE\t04\ta\n",
     b"E\t5\ta\nE 4\ta\n",
     // The first bad line wins.
-    b"E\nE\t86400\ta\n",
+    b"E\nE\t90000\ta\n",
     b"E\t5\ta\n\nE\t4\ta\n",
-    b"E\t86400\ta\nE\n",
+    b"E\t90000\ta\nE\n",
     b"E\t5\ta\nE\t4\ta\nE\n",
-    b"E\t86400\ta\nE\t0\ta\n",
+    b"E\t90000\ta\nE\t0\ta\n",
     b"E\t5\ta\nE\t4\t[\nE\t3\ta\n",
-    b"E\t5\ta\nE\t4\ta\nE\t86400\ta\nx",
+    b"E\t5\ta\nE\t4\ta\nE\t90000\ta\nx",
     // Nothing that looks like a line, or a job instead of a day.
     b"\xef\xbb\xbfE\t0\ta\n",
     b"R\ta\nE\t0\ta\n",
 ];
 
-/// Seconds that are of the form; those beyond the day are 13.
-const SECONDS: [usize; 21] = [
+/// Seconds of all lengths and about powers of two; those about the day's end are `hour_edges`.
+const SECONDS: [usize; 16] = [
     0, 1, 9, 10, 99, 100, 255, 256, 999, 1_000, 9_999, 10_000, 32_768, 65_535, 65_536, 79_999,
-    86_398, 86_399, 86_400, 90_000, 99_999,
 ];
 
 /// All the days, one group after another.
 pub fn cases() -> Vec<Case> {
     let mut days: Vec<Vec<u8>> = SHORT.map(<[u8]>::to_vec).to_vec();
     days.extend(SECONDS.map(|second| joined(&[good_line(second, b'q')])));
+    days.extend(hour_edges::days());
     days.extend(wrong_parts());
     days.extend(changed_bytes());
     days.extend(every_byte());
@@ -189,7 +188,7 @@ fn about_buffers() -> Vec<Case> {
         b"x",
         b"E\t5\ta\nE\t4\tb\n",
         b"E\t1\ta\nE\t2\tb\nE\t3\tc",
-        b"E\t1\ta\nE\t86400\tb\n",
+        b"E\t1\ta\nE\t90000\tb\n",
         b"E\t1\ta\nE\t2\tb\nE\n",
     ];
     for day in refused {

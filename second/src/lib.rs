@@ -13,6 +13,7 @@ pub mod day_edges;
 pub mod draw;
 pub mod edges;
 pub mod generate;
+pub mod hour_edges;
 pub mod job;
 pub mod judge;
 pub mod judge_edges;

@@ -41,8 +41,8 @@ pub const MAX_DAY_LINES: usize = MAX_WORD;
 /// The most digits of a second.
 pub const MAX_SECOND_DIGITS: usize = 5;
 
-/// The last second of a day.
-pub const LAST_SECOND: u32 = 86_399;
+/// The last second of a day, which has 25 hours when the clocks go back; any day may come to it.
+pub const LAST_SECOND: u32 = 89_999;
 
 /// How many bytes of its input the program reads.
 pub const MAX_JOB_BYTES: usize = 2_809;

@@ -1,13 +1,22 @@
 //! Random days for the command `draw`: good ones, damaged ones, and buffers that may be too short.
 
 use crate::generate::{any_byte, change_byte};
-use crate::limits::{LAST_SECOND, LETTERS, MAX_DAY_BYTES, MAX_DAY_LINES};
+use crate::limits::{LAST_SECOND, LETTERS, MAX_DAY_BYTES, MAX_DAY_LINES, MAX_SECOND_DIGITS};
 use crate::lines::{empty_line, good_line, joined, Line, SECOND, WRONG};
 use crate::random::Random;
 use crate::stream::Case;
 
 /// How many seconds a day has.
 const DAY: usize = LAST_SECOND as usize + 1;
+
+/// How many seconds an hour has.
+const HOUR: usize = 3_600;
+
+/// The first second of the day's last hour.
+const LAST_HOUR: usize = DAY - HOUR;
+
+/// How many seconds beyond the day are of the form.
+const BEYOND: usize = 10usize.pow(MAX_SECOND_DIGITS as u32) - DAY;
 
 /// The most lines of an ordinary random day.
 const FEW_LINES: usize = 20;
@@ -70,11 +79,13 @@ fn good_lines(random: &mut Random, count: usize) -> Vec<Line> {
 
 /// So many seconds that never fall, from a wide or a narrow part of the day.
 pub fn rising_seconds(random: &mut Random, count: usize) -> Vec<usize> {
-    let (first, width) = match random.below(6) {
+    let (first, width) = match random.below(8) {
         0 => (random.below(DAY), 1),
         1 => (0, 12),
         2 => (DAY - 10, 10),
         3 => (9_990, 20),
+        4 => (LAST_HOUR, HOUR),
+        5 => (LAST_HOUR - 10, 20),
         _ => (0, DAY),
     };
     let mut seconds: Vec<usize> = (0..count).map(|_| first + random.below(width)).collect();
@@ -89,12 +100,26 @@ pub fn damage(random: &mut Random, lines: &mut Vec<Line>) {
     }
     let at = random.below(lines.len());
     let part = random.below(WRONG.len());
-    match random.below(10) {
+    match random.below(12) {
         0 => lines.insert(at, empty_line()),
-        1 | 2 => lines[at][SECOND] = random.below(DAY).to_string().into(),
-        3 => lines[at][SECOND] = (DAY - 2 + random.below(4)).to_string().into(),
+        1 => lines[at][SECOND] = random.below(DAY).to_string().into(),
+        2 => lines[at][SECOND] = (DAY - 2 + random.below(4)).to_string().into(),
+        3 => lines[at][SECOND] = (DAY + random.below(BEYOND)).to_string().into(),
         4 => lines.swap(at, 0),
+        5 => put_back(&mut lines[at..]),
         _ => lines[at][part] = random.pick(WRONG[part]).to_vec(),
+    }
+}
+
+/// Makes the seconds of these lines an hour less, as a clock that is put back has them; those of
+/// the first hour stay, and so does what is no number.
+fn put_back(lines: &mut [Line]) {
+    for line in lines {
+        let digits = std::str::from_utf8(&line[SECOND]).unwrap_or_default();
+        let second = digits.parse().unwrap_or(0usize);
+        if let Some(earlier) = second.checked_sub(HOUR) {
+            line[SECOND] = earlier.to_string().into();
+        }
     }
 }
 

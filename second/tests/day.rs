@@ -34,11 +34,11 @@ fn lines(count: usize, line: &str) -> Vec<u8> {
 
 #[test]
 fn letters_and_seconds_are_written_in_line_order() {
-    let day = b"E\t0\ta\nE\t7\tz\nE\t7\tM\nE\t86399\tb\n";
+    let day = b"E\t0\ta\nE\t7\tz\nE\t7\tM\nE\t89999\tb\n";
     let (answer, letters, seconds) = read_into(day, (6, 5));
     assert_eq!(answer, (0, 0, 4));
     assert_eq!(letters, b"azMb##");
-    assert_eq!(seconds, [0, 7, 7, 86_399, SECOND_DIRT]);
+    assert_eq!(seconds, [0, 7, 7, 89_999, SECOND_DIRT]);
 }
 
 #[test]
@@ -55,7 +55,7 @@ fn no_bytes_is_a_day_without_events() {
 #[test]
 fn seconds_of_every_length_pass() {
     for second in [
-        "0", "9", "10", "99", "100", "999", "1000", "9999", "10000", "86399",
+        "0", "9", "10", "99", "100", "999", "1000", "9999", "10000", "89999",
     ] {
         let day = format!("E\t{second}\tq\n");
         let (answer, letters, seconds) = read_into(day.as_bytes(), (1, 1));
@@ -131,11 +131,29 @@ fn a_byte_that_is_no_letter_is_12() {
 
 #[test]
 fn a_second_too_late_is_13_up_to_five_digits() {
-    assert_eq!(verdict(b"E\t86399\ta\n"), (0, 0, 1));
-    assert_eq!(verdict(b"E\t86400\ta\n"), (13, 1, 0));
+    assert_eq!(verdict(b"E\t89999\ta\n"), (0, 0, 1));
+    assert_eq!(verdict(b"E\t90000\ta\n"), (13, 1, 0));
     assert_eq!(verdict(b"E\t99999\ta\n"), (13, 1, 0));
     assert_eq!(verdict(b"E\t100000\ta\n"), (12, 1, 0));
     assert_eq!(verdict(b"E\t99999999999999999999\ta\n"), (12, 1, 0));
+    for second in 0..=100_010 {
+        let day = format!("E\t0\ta\nE\t{second}\ta\n");
+        let expected = match second {
+            0..=89_999 => (0, 0, 2),
+            90_000..=99_999 => (13, 2, 0),
+            _ => (12, 2, 0),
+        };
+        assert_eq!(verdict(day.as_bytes()), expected, "{second}");
+    }
+}
+
+#[test]
+fn the_25th_hour_is_a_part_of_the_day() {
+    let day = b"E\t86399\ta\nE\t86400\tb\nE\t86400\tc\nE\t89999\td\nE\t89999\te\n";
+    let (answer, letters, seconds) = read_into(day, (5, 6));
+    assert_eq!((answer, &letters[..]), ((0, 0, 5), &b"abcde"[..]));
+    let expected = [86_399, 86_400, 86_400, 89_999, 89_999, SECOND_DIRT];
+    assert_eq!(seconds, expected);
 }
 
 #[test]
@@ -145,30 +163,48 @@ fn a_second_below_the_line_before_is_13() {
     assert_eq!(verdict(b"E\t10\ta\nE\t9\ta\n"), (13, 2, 0));
     assert_eq!(verdict(b"E\t1\ta\nE\t5\ta\nE\t4\ta\n"), (13, 3, 0));
     assert_eq!(verdict(b"E\t86399\ta\nE\t0\ta\n"), (13, 2, 0));
+    // It may not fall within the 25th hour either, nor out of it.
+    assert_eq!(verdict(b"E\t86401\ta\nE\t86400\ta\n"), (13, 2, 0));
+    assert_eq!(verdict(b"E\t86400\ta\nE\t86399\ta\n"), (13, 2, 0));
+    assert_eq!(verdict(b"E\t5\ta\nE\t89999\ta\nE\t89998\ta\n"), (13, 3, 0));
+    assert_eq!(verdict(b"E\t89999\ta\nE\t0\ta\n"), (13, 2, 0));
+}
+
+#[test]
+fn a_clock_that_is_put_back_is_13() {
+    for before in [3_600, 10_799, 10_800, 86_399, 86_400, 89_999] {
+        for fall in [3_599, 3_600] {
+            let day = format!("E\t{before}\ta\nE\t{}\ta\n", before - fall);
+            assert_eq!(verdict(day.as_bytes()), (13, 2, 0), "{before} by {fall}");
+        }
+    }
 }
 
 #[test]
 fn within_a_line_12_comes_before_13() {
     assert_eq!(verdict(b"E\t99999\t_\n"), (12, 1, 0));
     assert_eq!(verdict(b"E\t99999\tA\n"), (13, 1, 0));
-    assert_eq!(verdict(b"E\t86400\ta"), (12, 1, 0));
+    assert_eq!(verdict(b"E\t90000\t_\n"), (12, 1, 0));
+    assert_eq!(verdict(b"E\t90000\ta"), (12, 1, 0));
     assert_eq!(verdict(b"E\t5\ta\nE\t4\ta"), (12, 2, 0));
     assert_eq!(verdict(b"E\t5\ta\nE\t4\taa\n"), (12, 2, 0));
 }
 
 #[test]
 fn the_first_bad_line_wins() {
-    assert_eq!(verdict(b"E\t86400\ta\nE\n"), (13, 1, 0));
-    assert_eq!(verdict(b"E\nE\t86400\ta\n"), (12, 1, 0));
+    assert_eq!(verdict(b"E\t90000\ta\nE\n"), (13, 1, 0));
+    assert_eq!(verdict(b"E\nE\t90000\ta\n"), (12, 1, 0));
+    assert_eq!(verdict(b"E\t90000\ta\nE\t100000\ta\n"), (13, 1, 0));
+    assert_eq!(verdict(b"E\t100000\ta\nE\t90000\ta\n"), (12, 1, 0));
     assert_eq!(verdict(b"E\t5\ta\nE\t4\ta\nE\n"), (13, 2, 0));
     assert_eq!(verdict(b"E\t5\ta\n\nE\t4\ta\n"), (12, 2, 0));
     // A bad line is not the line before: only line 1 is judged.
-    assert_eq!(verdict(b"E\t86400\ta\nE\t0\ta\n"), (13, 1, 0));
+    assert_eq!(verdict(b"E\t90000\ta\nE\t0\ta\n"), (13, 1, 0));
 }
 
 #[test]
 fn over_2550_bytes_is_11_before_all_else() {
-    let longest = lines(255, "E\t86399\ta\n");
+    let longest = lines(255, "E\t89999\tx\n");
     assert_eq!(longest.len(), 2_550);
     assert_eq!(verdict(&longest), (0, 0, 255));
     assert_eq!(verdict(&[&longest[..], b"E"].concat()), (11, 0, 0));
@@ -187,7 +223,7 @@ fn a_256th_line_is_14_whatever_its_form() {
         b"x",
         b"\n",
         b"E\t6\ta\n",
-        b"E\t86400\ta\n",
+        b"E\t90000\ta\n",
         b"\0\n\n\n",
     ];
     for rest in rests {
@@ -254,7 +290,7 @@ fn judged_by_rewriting(day: &[u8]) -> (u32, usize, Vec<(u32, u8)>) {
             return (12, place, vec![]);
         };
         let before = records.last().map_or(0, |last| last.0);
-        if record.0 > 86_399 || record.0 < before {
+        if record.0 > 89_999 || record.0 < before {
             return (13, place, vec![]);
         }
         records.push(record);
@@ -269,7 +305,7 @@ fn random_day(random: &mut Random) -> Vec<u8> {
     let mut day = String::new();
     for _ in 0..random.below(6) {
         let step = random.pick(&[0, 1, 9, 90, 900, 9_000, 40_000]);
-        second = (second + random.below(step + 1)).min(86_399);
+        second = (second + random.below(step + 1)).min(89_999);
         day += &format!("E\t{second}\t{}\n", random.pick(b"abyzABEZ") as char);
     }
     day.into_bytes()

@@ -16,7 +16,7 @@ fn run(input: &[u8]) -> String {
 
 /// A day of so many lines of ten bytes each, the longest there are.
 fn long_day(lines: usize) -> String {
-    "E\t86399\ta\n".repeat(lines)
+    "E\t89999\ta\n".repeat(lines)
 }
 
 #[test]
@@ -100,13 +100,24 @@ fn the_rows_come_in_the_tables_order() {
 
 #[test]
 fn day_refusals_come_through() {
-    assert_eq!(run(b"R\ta\nE\t86400\ta\n"), "X\t13\t1\n");
+    assert_eq!(run(b"R\ta\nE\t90000\ta\n"), "X\t13\t1\n");
+    assert_eq!(run(b"R\ta\nE\t100000\ta\n"), "X\t12\t1\n");
     assert_eq!(run(b"R\ta\nE\t5\ta\nE\t4\ta\n"), "X\t13\t2\n");
     assert_eq!(run(b"R\ta\nE\t0\ta\nE\t0\t_\n"), "X\t12\t2\n");
     let day = "E\t0\ta\n".repeat(256);
     assert_eq!(run(format!("R\ta\n{day}").as_bytes()), "X\t14\t256\n");
     let day = "\n".repeat(2_551);
     assert_eq!(run(format!("R\ta\n{day}").as_bytes()), "X\t11\t0\n");
+}
+
+#[test]
+fn a_day_may_go_through_the_25th_hour() {
+    let job = b"R\tab\nE\t86399\ta\nE\t86400\tb\nE\t89999\ta\nE\t89999\tb\n";
+    let same_at_midnight = b"R\tab\nE\t0\ta\nE\t0\tb\nE\t0\ta\nE\t0\tb\n";
+    assert!(run(job).ends_with("S\t0\t2\nS\t2\t4\n"));
+    assert_eq!(run(job), run(same_at_midnight));
+    assert_eq!(run(b"R\ta\nE\t86401\ta\nE\t86400\ta\n"), "X\t13\t2\n");
+    assert_eq!(run(b"R\ta\nE\t10799\ta\nE\t7200\ta\n"), "X\t13\t2\n");
 }
 
 #[test]

@@ -2,6 +2,7 @@
 
 use std::fmt;
 
+use super::hours::Hours;
 use super::letters::Letters;
 use super::names::{self, Names};
 use super::trouble::Trouble;
@@ -93,6 +94,8 @@ pub enum Kind {
     Shown(Letters),
     /// Besides its number it shows this of a rule file's names.
     ShownNames(Names),
+    /// Besides its number it shows this of the 25th hour.
+    ShownHours(Hours),
     /// This happens to the program.
     Trouble(Trouble),
 }
@@ -115,6 +118,7 @@ impl fmt::Display for Kind {
             }
             Kind::Shown(letters) => letters.fmt(formatter),
             Kind::ShownNames(names) => names.fmt(formatter),
+            Kind::ShownHours(hours) => hours.fmt(formatter),
             Kind::Trouble(trouble) => trouble.fmt(formatter),
         }
     }
@@ -158,7 +162,8 @@ impl Callee {
         let numbers = numbers.into_iter().map(Kind::Number);
         let letters = Letters::of(self).iter().copied().map(Kind::Shown);
         let names = Names::of(self).iter().copied().map(Kind::ShownNames);
-        let shown = letters.chain(names);
+        let hours = Hours::of(self).iter().copied().map(Kind::ShownHours);
+        let shown = letters.chain(names).chain(hours);
         numbers.chain(unanswered).chain(shown).collect()
     }
 

@@ -5,7 +5,7 @@ use super::call::{Call, Callee, Kind, Library, UNANSWERED};
 use super::lent::{Difference, Dirt, Lent, Side};
 use super::reference;
 use super::request::{Asked, Request};
-use super::{letters, names};
+use super::{hours, letters, names};
 
 /// What came of one comparison.
 pub struct Checked {
@@ -38,7 +38,9 @@ pub fn check(library: &Library, case: &str, request: &Request) -> Checked {
 fn shown(asked: &Asked, number: u32, place: usize) -> Vec<Kind> {
     let letters = letters::shown(asked, number, place);
     let letters = letters.into_iter().map(Kind::Shown);
-    letters.chain(names::shown(asked, number, place)).collect()
+    let names = names::shown(asked, number, place);
+    let hours = hours::shown(asked, number, place).map(Kind::ShownHours);
+    letters.chain(names).chain(hours).collect()
 }
 
 /// What is wrong with the number that a call returned.

@@ -5,7 +5,7 @@ use crate::letter_edges::{self, ENDS};
 use crate::limits::{LAST_SECOND, LETTERS, MAX_DAY_BYTES, MAX_DAY_LINES, MAX_JOB_BYTES};
 use crate::lines::{good_line, joined};
 use crate::rule_edges::{example_1, run};
-use crate::{day_edges, rule_edges, stream::Case};
+use crate::{day_edges, hour_edges, rule_edges, stream::Case};
 
 /// Document 01's whole case.
 const WHOLE_CASE: &[u8] = b"R\t!a\nE\t0\ta\n";
@@ -59,7 +59,7 @@ const BAD_RULES: [&[u8]; 14] = [
 ];
 
 /// Jobs whose day has a bad line.
-const BAD_DAYS: [&[u8]; 18] = [
+const BAD_DAYS: [&[u8]; 17] = [
     b"R\ta\n\n",
     b"R\ta\n\nE\t0\ta\n",
     b"R\ta\nE\t0\ta\n\n",
@@ -74,10 +74,9 @@ const BAD_DAYS: [&[u8]; 18] = [
     b"R\ta\nE\t0\t_\n",
     b"R\ta\nE 0\ta\n",
     b"R\ta\nE\t0 a\n",
-    b"R\ta\nE\t86400\ta\n",
+    b"R\ta\nE\t90000\ta\n",
     b"R\ta\nE\t100000\ta\n",
     b"R\ta\nE\t5\ta\nE\t4\ta\n",
-    b"R\ta\nE\t86399\ta\nE\t86399\ta\n",
 ];
 
 /// Jobs with something bad in each row from the one that answers.
@@ -86,7 +85,7 @@ const SEVERAL_FAULTS: [&[u8]; 5] = [
     b"R\t)\nE\n",
     b"R\t\nE\t0\t_\n",
     b"R\ta\nE\n",
-    b"R\ta\nE\t86400\t_\n",
+    b"R\ta\nE\t90000\t_\n",
 ];
 
 /// Jobs in which tags stand as letters, letters as tags, or a letter in both cases.
@@ -114,6 +113,7 @@ pub fn jobs() -> Vec<Vec<u8>> {
     jobs.extend(about_rules());
     jobs.extend(about_words());
     jobs.extend(about_days());
+    jobs.extend(hour_edges::days().iter().map(|day| job(b"ab", day)));
     jobs.extend(about_bytes());
     jobs.extend(about_letters());
     jobs

@@ -6,6 +6,7 @@ pub mod call;
 pub mod check;
 pub mod commands;
 pub mod edge_requests;
+pub mod hours;
 pub mod job_edges;
 pub mod lent;
 pub mod letters;

@@ -11,9 +11,9 @@ use std::thread;
 use super::call::{Callee, Kind};
 use super::check::Checked;
 use super::lent::{first_different, shown_around, Difference};
-use super::letters;
 use super::request::shown_bytes;
 use super::running::{Running, PATIENCE, REST};
+use super::{hours, letters};
 use crate::job;
 use crate::limits::MAX_JOB_BYTES;
 use crate::random::Random;
@@ -86,10 +86,12 @@ pub fn check(program: &OsStr, input: &Input) -> Checked {
         Err(failure) => Some(failed_run(failure)),
     };
     let letters = letters::shown_by_job(input.job(), number, place);
+    let hours = hours::shown_by_job(input.job(), number, place);
+    let letters = letters.into_iter().map(Kind::Shown);
     Checked {
         callee: Callee::Program,
         kind: Kind::Number(number),
-        shown: letters.into_iter().map(Kind::Shown).collect(),
+        shown: letters.chain(hours.map(Kind::ShownHours)).collect(),
         difference,
     }
 }

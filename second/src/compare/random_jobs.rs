@@ -2,7 +2,7 @@
 
 use super::job_edges;
 use crate::generate::{any_byte, change_byte};
-use crate::limits::{MAX_JOB_BYTES, MAX_RULE_BYTES};
+use crate::limits::{LAST_SECOND, MAX_JOB_BYTES, MAX_RULE_BYTES};
 use crate::lines::{good_line, joined, Line};
 use crate::random::Random;
 use crate::{random_calls, random_days, random_rules};
@@ -132,7 +132,8 @@ fn lengthen(random: &mut Random, job: &mut Vec<u8>) {
         1 => MAX_JOB_BYTES + random.below(MOST_UNREAD),
         _ => job.len() + random.below(MAX_JOB_BYTES),
     };
-    let line = good_line(random.pick(&[0, 86_399]), random.pick(b"aA")).concat();
+    let second = random.pick(&[0, LAST_SECOND as usize]);
+    let line = good_line(second, random.pick(b"aA")).concat();
     let more = length.saturating_sub(job.len());
     job.extend(line.iter().cycle().take(more));
 }

@@ -25,7 +25,7 @@ const SIGPIPE: i32 = 13;
 
 /// A job whose beginnings up to any line's end are accepted jobs too: whoever takes a failure for
 /// the end of the input has something to print.
-const JOB: &[u8] = b"R\t(ab)*&!(ba)\nE\t0\ta\nE\t7\tb\nE\t7\ta\nE\t86399\tb\n";
+const JOB: &[u8] = b"R\t(ab)*&!(ba)\nE\t0\ta\nE\t7\tb\nE\t7\ta\nE\t89999\tb\n";
 
 /// What happens.
 #[derive(Clone, Copy, Debug, PartialEq, Eq, PartialOrd, Ord)]
@@ -185,7 +185,7 @@ fn long_list() -> Vec<u8> {
 
 /// More bytes than are read.
 fn too_long() -> Vec<u8> {
-    job_edges::job(b"a", &b"E\t86399\ta\n".repeat(MAX_DAY_LINES + 50))
+    job_edges::job(b"a", &b"E\t89999\ta\n".repeat(MAX_DAY_LINES + 50))
 }
 
 /// Something that happens, with the bytes that the program is given.

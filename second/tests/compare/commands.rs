@@ -146,7 +146,7 @@ fn a_number_that_never_came_is_a_failure() {
     assert!(!run.finish(&[Callee::ReadDay.required()]).unwrap());
     let text = String::from_utf8(output).unwrap();
     assert!(text.contains("MISSING: wuz_read_day never had refusal 14\n"));
-    assert_eq!(last_line(&text), "8 passed, 1 failed");
+    assert_eq!(last_line(&text), "10 passed, 1 failed");
 }
 
 #[test]

@@ -1,6 +1,7 @@
 //! What is drawn for the library: fixed by seed and number, and at every bound.
 
 use std::collections::BTreeSet;
+use std::ops::RangeInclusive;
 
 use second::compare::call::{FILE_LINES, FILE_NODES, NODES};
 use second::compare::lent::Dirt;
@@ -36,6 +37,25 @@ fn note(bounds: &mut BTreeSet<String>, met: bool, name: impl Into<String>) {
 /// Whether a capital stands among the bytes.
 fn has_capital(bytes: &[u8]) -> bool {
     bytes.iter().any(u8::is_ascii_uppercase)
+}
+
+/// Whether a second of a day is one of these.
+fn has_second(day: &[u8], seconds: RangeInclusive<u32>) -> bool {
+    let fields = day.split(|&byte| byte == b'\t');
+    let mut numbers = fields.filter_map(|field| std::str::from_utf8(field).ok()?.parse().ok());
+    numbers.any(|number: u32| seconds.contains(&number))
+}
+
+/// Notes the bounds of seconds; the name is that of what they stand in.
+fn note_seconds(bounds: &mut BTreeSet<String>, bytes: &[u8], name: &str) {
+    let in_last = has_second(bytes, 86_400..=89_999);
+    note(bounds, in_last, format!("{name} in hour 25"));
+    let after = has_second(bytes, 90_002..=99_998);
+    note(bounds, after, format!("{name} after hour 25"));
+    for second in [86_399, 86_400, 89_999, 90_000] {
+        let met = has_second(bytes, second..=second);
+        note(bounds, met, format!("{name} at {second}"));
+    }
 }
 
 /// Notes the bounds of a rule text.
@@ -77,6 +97,7 @@ fn note_day(bounds: &mut BTreeSet<String>, file: &[u8], letters: usize, seconds:
         note(bounds, buffer == n + 3, format!("{name} long"));
     }
     note(bounds, letters != seconds, "buffers differ");
+    note_seconds(bounds, file, "day");
 }
 
 /// Notes the bounds of a judge call.
@@ -112,6 +133,7 @@ fn note_job(bounds: &mut BTreeSet<String>, bytes: &[u8], out: usize) {
     note(bounds, bytes.contains(&0), "job with NUL");
     note(bounds, bytes.contains(&255), "job with high byte");
     note(bounds, bytes.contains(&b'\r'), "job with CR");
+    note_seconds(bounds, bytes, "job");
     match job::judge_job(bytes) {
         Ok(report) => {
             let length = report.lines().len();
@@ -215,7 +237,9 @@ fn every_bound_is_drawn() {
         file 17;file 18;file 19;1 rule;16 rules;file with names;name of 12;long text;1800 nested;\
         file m 64;file k 7;lines short;lines long;file nodes short;file nodes long;file n 255;\
         file n 256;file table short;file table exact;file table long;file limit below;\
-        file limit exact";
+        file limit exact;day in hour 25;day after hour 25;day at 86399;day at 86400;day at 89999;\
+        day at 90000;job in hour 25;job after hour 25;job at 86399;job at 86400;job at 89999;\
+        job at 90000";
     for bound in expected.split(';') {
         assert!(bounds.contains(bound), "{bound} was not drawn");
     }

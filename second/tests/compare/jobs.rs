@@ -24,7 +24,7 @@ fn the_edges_that_document_01_names_are_there() {
     check_among(&jobs, b"R\t!0\nE\t0\ta\nE\t1\tb\n", "H\t2\t2\t1\t6\t12\n");
     check_among(&jobs, b"", "X\t16\t0\n");
     check_among(&jobs, b"R\t\n", "X\t1\t0\n");
-    check_among(&jobs, b"R\ta\nE\t86400\ta\n", "X\t13\t1\n");
+    check_among(&jobs, b"R\ta\nE\t90000\ta\n", "X\t13\t1\n");
     check_among(&jobs, b"R\ta\nE\t100000\ta\n", "X\t12\t1\n");
     check_among(&jobs, b"R\tA\nE\t0\tA\n", "H\t1\t1\t0\t1\t3\nS\t0\t1\n");
     check_among(&jobs, b"R\tA\nE\t0\ta\n", "H\t1\t1\t0\t0\t2\n");
@@ -32,12 +32,34 @@ fn the_edges_that_document_01_names_are_there() {
     check_among(&jobs, b"R\tE\t0\tE\n", "X\t3\t1\n");
     check_among(&jobs, b"E\tE\nE\t0\tE\n", "X\t16\t0\n");
     check_among(&jobs, b"R\tE\nR\tE\nE\t0\tE\n", "X\t12\t1\n");
-    let day = "E\t86399\ta\n".repeat(255);
+    let day = "E\t89999\ta\n".repeat(255);
     let stars = format!("R\ta{}\n{day}", "*".repeat(63));
     check_among(&jobs, stars.as_bytes(), "H\t255\t64\t0\t32896\t");
     let nested = format!("R\t{}a{}\n{day}", "(".repeat(127), ")".repeat(127));
     check_among(&jobs, nested.as_bytes(), "H\t255\t1\t0\t255\t511\n");
     check_among(&jobs, format!("{nested}E").as_bytes(), "X\t11\t0\n");
+}
+
+#[test]
+fn the_edges_of_the_25th_hour_are_there() {
+    let jobs = jobs();
+    let check = |day: &str, printed: &str| {
+        check_among(&jobs, format!("R\tab\n{day}").as_bytes(), printed);
+    };
+    for second in [86_399, 86_400, 89_998, 89_999] {
+        check(&format!("E\t{second}\tq\n"), "H\t1\t3\t0\t0\t");
+    }
+    for second in [90_000, 90_001, 99_999] {
+        check(&format!("E\t{second}\tq\n"), "X\t13\t1\n");
+    }
+    check("E\t100000\tq\n", "X\t12\t1\n");
+    let day = "E\t86399\ta\nE\t86400\tb\nE\t89999\tc\n";
+    check(day, "H\t3\t3\t0\t1\t");
+    check("E\t89999\ta\nE\t89999\tb\n", "H\t2\t3\t0\t1\t");
+    check("E\t86401\ta\nE\t86400\tb\n", "X\t13\t2\n");
+    check("E\t10799\ta\nE\t7200\tb\n", "X\t13\t2\n");
+    check("E\t89999\ta\nE\t86400\tb\n", "X\t13\t2\n");
+    check_among(&jobs, b"R\ta\nE\t90000\t_\n", "X\t12\t1\n");
 }
 
 #[test]

@@ -79,7 +79,7 @@ fn dirt_is_nothing_that_a_call_writes() {
             .iter()
             .all(|&byte| byte > 127));
         let seconds = Lent::<u32>::dirty("seconds", 500, dirt).came;
-        assert!(seconds.iter().all(|&second| second > 86_399));
+        assert!(seconds.iter().all(|&second| second > 89_999));
     }
     let table = |dirt| Lent::<u64>::dirty("table", 500, dirt).came;
     assert!(table(Dirt::Ones).iter().all(|&number| number == u64::MAX));

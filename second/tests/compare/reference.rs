@@ -135,13 +135,13 @@ fn what_is_returned_is_the_number_or_none_that_there_is() {
 fn a_day_fills_both_buffers_up_to_its_end() {
     let (mut letters, mut seconds, mut answer) = ([b'?'; 3], [7; 4], [KEPT; 6]);
     let number = run(Call::ReadDay {
-        file: b"E\t5\tx\nE\t86399\tY\n",
+        file: b"E\t86400\tx\nE\t89999\tY\n",
         letters: &mut letters,
         seconds: &mut seconds,
         answer: &mut answer,
     });
     assert_eq!(number, Some(0));
-    assert_eq!((&letters, seconds), (b"xY?", [5, 86_399, 7, 7]));
+    assert_eq!((&letters, seconds), (b"xY?", [86_400, 89_999, 7, 7]));
     assert_eq!(answer, [0, 0, 0, 0, 2, KEPT]);
 }
 
@@ -175,7 +175,7 @@ fn a_job_writes_its_text() {
     assert_eq!(run_job(job, short.len()), (Some(15), refused, short));
     let refused = vec![13, 1, 0, 0, 0, KEPT];
     assert_eq!(
-        run_job(b"R\ta\nE\t86400\ta\n", 0),
+        run_job(b"R\ta\nE\t90000\ta\n", 0),
         (Some(13), refused, vec![])
     );
 }

@@ -4,7 +4,6 @@
 use std::sync::OnceLock;
 
 use second::compare::call::{Call, Callee, Library};
-use second::compare::check::check;
 use second::compare::edge_requests::requests;
 use second::compare::reference;
 use second::compare::request::{Asked, Request};
@@ -13,6 +12,7 @@ use second::rule_file::{read, read_last, written_lines};
 
 use crate::check::{answer, borrowed};
 use crate::file_verdict::{own_parentheses, verdict, Wrong, ORDER};
+use crate::wrong;
 
 /// The calls that take a rule file.
 const BOTH: [Callee; 2] = [Callee::ReadRuleFile, Callee::JudgeRuleFile];
@@ -26,14 +26,9 @@ fn edges() -> &'static [Request] {
     })
 }
 
-/// The calls in which the edges find a difference to a library.
+/// The calls in which they find a difference to a library.
 fn found(library: &Library) -> Vec<Callee> {
-    let differs = |request: &&Request| check(library, "a case", request).difference.is_some();
-    let has = |callee: &Callee| {
-        let mut of_callee = edges().iter().filter(|edge| edge.asked.callee() == *callee);
-        of_callee.any(|request| differs(&request))
-    };
-    BOTH.into_iter().filter(has).collect()
+    wrong::found(edges(), library)
 }
 
 /// The file of a call.

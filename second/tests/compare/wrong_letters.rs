@@ -2,11 +2,9 @@
 
 use std::ops::RangeInclusive;
 
-use second::compare::call::{Call, Callee, Library};
-use second::compare::check::check;
-use second::compare::edge_requests::requests;
+use second::compare::call::{Call, Callee};
 use second::compare::reference;
-use second::compare::request::{Asked, Request};
+use second::compare::request::Request;
 use second::day;
 use second::job::split_job;
 use second::language::spans_of_nodes;
@@ -15,13 +13,18 @@ use second::rule::{read, Kind, Rule};
 use second::rule_file::read_last;
 
 use crate::check::{answer, borrowed};
+use crate::wrong::{found, found_with, short_edges, Part};
 
 /// A mistake that a library makes: what it takes a byte for that stands where an event can.
 type Mistake<'a> = &'a dyn Fn(u8) -> u8;
 
-/// The bytes of a rule or a word as the library takes them.
-fn taken(bytes: &[u8], mistake: Mistake) -> Vec<u8> {
-    bytes.iter().map(|&byte| mistake(byte)).collect()
+/// The bytes of a part as the library takes them.
+fn taken(part: Part, bytes: &[u8], mistake: Mistake) -> Vec<u8> {
+    match part {
+        Part::RuleOrWord => bytes.iter().map(|&byte| mistake(byte)).collect(),
+        Part::Day => taken_day(bytes, mistake),
+        Part::RuleFile => taken_file(bytes, mistake),
+    }
 }
 
 /// The bytes of a day as the library takes them: only what stands between a tab and a newline is
@@ -34,15 +37,6 @@ fn taken_day(file: &[u8], mistake: Mistake) -> Vec<u8> {
         }
     }
     taken
-}
-
-/// The bytes of a job as the library takes them.
-fn taken_job(job: &[u8], mistake: Mistake) -> Vec<u8> {
-    let Ok((rule, day)) = split_job(job) else {
-        return job.to_vec();
-    };
-    let (rule, day) = (taken(rule, mistake), taken_day(day, mistake));
-    [b"R\t", &rule[..], b"\n", &day].concat()
 }
 
 /// The bytes of a rule file as the library takes them: only what stands in a rule is changed, and
@@ -60,28 +54,6 @@ fn taken_file(file: &[u8], mistake: Mistake) -> Vec<u8> {
         byte
     });
     taken.collect()
-}
-
-/// What a library does with a call that makes the mistake in it.
-fn done_wrong(call: Call, mistake: Mistake) -> u64 {
-    let (first, second) = match &call {
-        Call::ReadRule { text, .. } => (taken(text, mistake), Vec::new()),
-        Call::ReadDay { file, .. } => (taken_day(file, mistake), Vec::new()),
-        Call::Judge { rule, word, .. } => (taken(rule, mistake), taken(word, mistake)),
-        Call::RunJob { job, .. } => (taken_job(job, mistake), Vec::new()),
-        Call::ReadRuleFile { file, .. } => (taken_file(file, mistake), Vec::new()),
-        Call::JudgeRuleFile { file, word, .. } => (taken_file(file, mistake), taken(word, mistake)),
-    };
-    let mut call = call;
-    match &mut call {
-        Call::ReadRule { text, .. } => *text = &first,
-        Call::ReadDay { file, .. } => *file = &first,
-        Call::Judge { rule, word, .. } => (*rule, *word) = (&first, &second),
-        Call::RunJob { job, .. } => *job = &first,
-        Call::ReadRuleFile { file, .. } => *file = &first,
-        Call::JudgeRuleFile { file, word, .. } => (*file, *word) = (&first, &second),
-    }
-    reference::returned(reference::run(call))
 }
 
 /// A library that complements against the words of small letters alone, so that no span with a
@@ -131,34 +103,9 @@ fn lost(rule: Rule, word: &[u8]) -> u64 {
     lost.count() as u64
 }
 
-/// The edges that are short; no other has to be asked to find a wrong letter.
-fn short_edges() -> Vec<Request> {
-    let length = |request: &Request| match &request.asked {
-        Asked::Rule { text, .. } => text.len(),
-        Asked::Day { file, .. } => file.len(),
-        Asked::Judge { rule, word, .. } => rule.len() + word.len(),
-        Asked::Job { job, .. } => job.len(),
-        Asked::RuleFile { file, .. } => file.len(),
-        Asked::JudgeFile { file, word, .. } => file.len() + word.len(),
-    };
-    let edges = requests().into_iter();
-    edges.filter(|request| length(request) < 40).collect()
-}
-
-/// The callees in which the edges find no difference to a library.
-fn not_found(edges: &[Request], library: &Library) -> Vec<Callee> {
-    let differs = |request: &Request| check(library, "a case", request).difference.is_some();
-    let found = |callee: &Callee| {
-        let mut edges = edges.iter().filter(|edge| edge.asked.callee() == *callee);
-        edges.any(differs)
-    };
-    let callees = Callee::LIBRARY.into_iter();
-    callees.filter(|callee| !found(callee)).collect()
-}
-
-/// The callees in which the edges find no difference to a library that makes the mistake.
-fn not_found_with(edges: &[Request], mistake: Mistake) -> Vec<Callee> {
-    not_found(edges, &|_: &str, call: Call| done_wrong(call, mistake))
+/// The callees in which the edges find a difference to a library that takes letters so.
+fn found_with_letters(edges: &[Request], mistake: Mistake) -> Vec<Callee> {
+    found_with(edges, &|part, bytes| taken(part, bytes, mistake))
 }
 
 #[test]
@@ -170,14 +117,14 @@ fn the_edges_find_a_library_with_other_letters() {
         move |byte: u8| if bytes.contains(&byte) { other } else { byte }
     };
     for bytes in no_letters {
-        let missed = not_found_with(&edges, &with(bytes.clone(), b'_'));
-        assert_eq!(missed, [], "{bytes:?} are no letters");
+        let found = found_with_letters(&edges, &with(bytes.clone(), b'_'));
+        assert_eq!(found, Callee::LIBRARY, "{bytes:?} are no letters");
     }
     for bytes in letters {
-        let missed = not_found_with(&edges, &with(bytes.clone(), b'q'));
-        assert_eq!(missed, [], "{bytes:?} are letters");
+        let found = found_with_letters(&edges, &with(bytes.clone(), b'q'));
+        assert_eq!(found, Callee::LIBRARY, "{bytes:?} are letters");
     }
-    assert_eq!(not_found_with(&edges, &|byte| byte), Callee::LIBRARY);
+    assert_eq!(found_with_letters(&edges, &|byte| byte), []);
 }
 
 #[test]
@@ -186,7 +133,8 @@ fn the_edges_find_a_library_that_folds_the_cases() {
     let edges = short_edges();
     let folds = [u8::to_ascii_lowercase, u8::to_ascii_uppercase];
     for fold in folds {
-        assert_eq!(not_found_with(&edges, &|byte| fold(&byte)), []);
+        let found = found_with_letters(&edges, &|byte| fold(&byte));
+        assert_eq!(found, Callee::LIBRARY);
     }
 }
 
@@ -204,6 +152,6 @@ fn the_edges_find_a_library_with_small_complements() {
     // Of three spans (0, 1) is lost, and of seven places one.
     assert_eq!(answer, [0, 0, 2, 6]);
     // Only the calls that do not judge cannot show it.
-    let readers = [Callee::ReadRule, Callee::ReadDay, Callee::ReadRuleFile];
-    assert_eq!(not_found(&short_edges(), &small_complements), readers);
+    let judges = [Callee::Judge, Callee::RunJob, Callee::JudgeRuleFile];
+    assert_eq!(found(&short_edges(), &small_complements), judges);
 }

@@ -132,15 +132,50 @@ fn days_come_to_their_limits() {
     for count in [19, 20, 253, 254, 255, 256] {
         assert!(counts.contains(&count), "{count} lines");
     }
-    for part in ["\t86399\t", "\t86400\t", "\t0\t", "\t9999\t", "\t10000\t"] {
-        assert!(days
-            .iter()
-            .any(|(case, _)| has(&case.bytes, part.as_bytes())));
+    for second in [
+        0, 9_999, 10_000, 86_399, 86_400, 89_998, 89_999, 90_000, 90_001,
+    ] {
+        let part = format!("\t{second}\t");
+        let mut days = days.iter();
+        let found = days.any(|(case, _)| has(&case.bytes, part.as_bytes()));
+        assert!(found, "second {second}");
     }
     for n in ["0", "1", "10", "20", "255"] {
         let accepted = |line: &str| line.starts_with(&format!("day\t0\t0\t0\t0\t{n}\t"));
         assert!(days.iter().any(|(_, line)| accepted(line)), "n {n}");
     }
+}
+
+/// The seconds of a day, as far as its lines have such fields.
+fn seconds(case: &Case) -> impl Iterator<Item = usize> + '_ {
+    let lines = case.bytes.split(|&byte| byte == b'\n');
+    let digits = lines.filter_map(|line| line.split(|&byte| byte == b'\t').nth(1));
+    digits.filter_map(|digits| std::str::from_utf8(digits).ok()?.parse().ok())
+}
+
+#[test]
+fn days_often_come_to_the_25th_hour_and_beyond() {
+    let all = many();
+    let count = |start: &str, meets: &dyn Fn(&Case) -> bool| {
+        let begins = |line: &str| line.starts_with(start);
+        all.iter()
+            .filter(|(case, line)| begins(line) && meets(case))
+            .count()
+    };
+    let days = all.iter().filter(|(case, _)| !case.is_rule()).count();
+    let in_last = |second: usize| (86_400..=89_999).contains(&second);
+    let accepted = count("day\t0\t", &|case| seconds(case).any(in_last));
+    assert!(accepted > days / 10, "{accepted} of {days}");
+    // Above the day's end, and not just beside it.
+    let after = |second: usize| (90_002..=99_998).contains(&second);
+    let refused = count("day\t13\t", &|case| seconds(case).any(after));
+    assert!(refused > 3, "{refused}");
+    // An hour less than in the line before, among others that fall.
+    let put_back = |case: &Case| {
+        let seconds: Vec<usize> = seconds(case).collect();
+        seconds.windows(2).any(|two| two[0] == two[1] + 3_600)
+    };
+    assert!(count("day\t13\t", &put_back) > 3);
 }
 
 #[test]

@@ -437,7 +437,7 @@ fn tags_are_tags_by_their_place() {
 #[test]
 fn short_good_days_are_read() {
     let edges = edges();
-    let good: [(&[u8], &str); 9] = [
+    let good: [(&[u8], &str); 15] = [
         (b"", "0\t128\t100000,100001"),
         (b"E\t0\ta\n", "1\t97,129\t0,100001,100002"),
         (b"E\t0\ta\nE\t0\ta\n", "2\t97,97,130\t0,0,100002,100003"),
@@ -451,6 +451,21 @@ fn short_good_days_are_read() {
             "4\t97,65,122,90,132\t0,0,0,0,100004,100005",
         ),
         (b"E\t86399\tq\n", "1\t113,129\t86399,100001,100002"),
+        (b"E\t86400\tq\n", "1\t113,129\t86400,100001,100002"),
+        (b"E\t89998\tq\n", "1\t113,129\t89998,100001,100002"),
+        (b"E\t89999\tq\n", "1\t113,129\t89999,100001,100002"),
+        (
+            b"E\t0\ta\nE\t89999\tb\nE\t89999\tc\n",
+            "3\t97,98,99,131\t0,89999,89999,100003,100004",
+        ),
+        (
+            b"E\t86399\ta\nE\t86400\tb\nE\t89999\tc\n",
+            "3\t97,98,99,131\t86399,86400,89999,100003,100004",
+        ),
+        (
+            b"E\t0\ta\nE\t86400\tb\nE\t86400\tB\n",
+            "3\t97,98,66,131\t0,86400,86400,100003,100004",
+        ),
         (b"E\t65536\tq\n", "1\t113,129\t65536,100001,100002"),
         (b"E\t0\tq\n", "1\t113,129\t0,100001,100002"),
     ];
@@ -474,7 +489,7 @@ fn a_damaged_line_is_12() {
         (b"E\t\tb\n", 12, 1),
         (b"E\t123456\tb\n", 12, 1),
         (b"E\t100000\tb\n", 12, 1),
-        (b"E\t086399\tb\n", 12, 1),
+        (b"E\t089999\tb\n", 12, 1),
         (b"E\t01\tb\n", 12, 1),
         (b"E\t00\tb\n", 12, 1),
         (b"E\t+1\tb\n", 12, 1),
@@ -506,36 +521,57 @@ fn a_damaged_line_is_12() {
 #[test]
 fn a_second_too_late_or_too_early_is_13() {
     check_refused_days(&[
-        (b"E\t86400\tq\n", 13, 1),
         (b"E\t90000\tq\n", 13, 1),
+        (b"E\t90001\tq\n", 13, 1),
         (b"E\t99999\tq\n", 13, 1),
-        (b"E\t3\ta\nE\t86400\tb\nE\t5\tc\n", 13, 2),
+        (b"E\t3\ta\nE\t90000\tb\nE\t5\tc\n", 13, 2),
+        (b"E\t89999\ta\nE\t90000\tb\n", 13, 2),
         (b"E\t10\ta\nE\t9\ta\n", 13, 2),
         (b"E\t1\ta\nE\t0\ta\n", 13, 2),
-        (b"E\t86399\ta\nE\t86398\ta\n", 13, 2),
+        (b"E\t86399\ta\nE\t86398\tb\n", 13, 2),
+        (b"E\t86400\ta\nE\t86399\tb\n", 13, 2),
+        (b"E\t86401\ta\nE\t86400\tb\n", 13, 2),
+        (b"E\t89999\ta\nE\t89998\tb\n", 13, 2),
         (b"E\t1\ta\nE\t5\tb\nE\t4\tc\n", 13, 3),
         (b"E\t5\ta\nE\t1\tb\nE\t3\tc\n", 13, 2),
-        (b"E\t86400\tA\n", 13, 1),
+        (b"E\t90000\tA\n", 13, 1),
         (b"E\t5\ta\nE\t4\tA\n", 13, 2),
+    ]);
+}
+
+#[test]
+fn a_clock_that_is_put_back_is_13() {
+    check_refused_days(&[
+        (b"E\t10799\ta\nE\t7200\tb\n", 13, 2),
+        (b"E\t10800\ta\nE\t7200\tb\n", 13, 2),
+        (b"E\t3600\ta\nE\t0\tb\n", 13, 2),
+        (b"E\t89999\ta\nE\t86400\tb\n", 13, 2),
+        (b"E\t89999\ta\nE\t86399\tb\n", 13, 2),
+        (b"E\t86400\ta\nE\t0\tb\n", 13, 2),
+        (b"E\t7200\ta\nE\t10799\tb\nE\t7200\tc\n", 13, 3),
     ]);
 }
 
 #[test]
 fn within_a_line_12_wins_and_then_the_first_bad_line() {
     check_refused_days(&[
-        (b"E\t86400\t_\n", 12, 1),
+        (b"E\t90000\t_\n", 12, 1),
         (b"E\t99999\ta", 12, 1),
-        (b"E\t86400\ta\r\n", 12, 1),
+        (b"E\t90000\ta\r\n", 12, 1),
         (b"E\t5\ta\nE\t4\t_\n", 12, 2),
         (b"E\t5\ta\nE\t4\ta", 12, 2),
         (b"E\t5\ta\nE\t04\ta\n", 12, 2),
-        (b"E\nE\t86400\ta\n", 12, 1),
+        (b"E\nE\t90000\ta\n", 12, 1),
         (b"E\t5\ta\n\nE\t4\ta\n", 12, 2),
-        (b"E\t86400\ta\nE\n", 13, 1),
+        (b"E\t90000\ta\nE\n", 13, 1),
         (b"E\t5\ta\nE\t4\ta\nE\n", 13, 2),
-        (b"E\t86400\ta\nE\t0\ta\n", 13, 1),
+        (b"E\t90000\ta\nE\t0\ta\n", 13, 1),
         (b"E\t5\ta\nE\t4\t[\nE\t3\ta\n", 12, 2),
-        (b"E\t5\ta\nE\t4\ta\nE\t86400\ta\nx", 13, 2),
+        (b"E\t5\ta\nE\t4\ta\nE\t90000\ta\nx", 13, 2),
+        (b"E\t86401\ta\nE\t86400\tb\nE\t90000\tc\n", 13, 2),
+        (b"E\t90000\ta\nE\t89999\tb\n", 13, 1),
+        (b"E\t90000\ta\nE\t100000\tb\n", 13, 1),
+        (b"E\t100000\ta\nE\t90000\tb\n", 12, 1),
     ]);
 }
 
@@ -605,10 +641,11 @@ fn a_256th_line_is_14_unless_a_line_before_is_bad() {
 
 #[test]
 fn over_2550_bytes_is_11_before_all_else() {
-    let longest = b"E\t86399\tz\n".repeat(255);
+    let longest = b"E\t89999\tz\n".repeat(255);
+    assert_eq!(longest.len(), 2_550);
     let (line, buffers) = answer_with_enough(&edges(), &longest);
     let letters = letters_after(&[b'z'; 255], buffers.0);
-    let seconds = seconds_after(&[86_399; 255], buffers.1);
+    let seconds = seconds_after(&[89_999; 255], buffers.1);
     assert_eq!(line, format!("day\t0\t0\t0\t0\t255\t{letters}\t{seconds}"));
     check_refused_days(&[(&[&longest[..], b"E"].concat(), 11, 0)]);
     assert_eq!(

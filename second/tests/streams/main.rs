@@ -184,7 +184,7 @@ fn check_accepted_day(case: &Case, fields: &[&str]) {
     let seconds = first_n(fields[7]);
     let letters: Vec<u8> = first_n(fields[6]).iter().map(|&item| item as u8).collect();
     assert!(letters.iter().all(u8::is_ascii_alphabetic));
-    assert!(seconds.is_sorted() && seconds.iter().all(|&second| second <= 86_399));
+    assert!(seconds.is_sorted() && seconds.iter().all(|&second| second <= 89_999));
     let line = |i: usize| format!("E\t{}\t{}\n", seconds[i], char::from(letters[i]));
     let day: String = (0..n).map(line).collect();
     assert_eq!(case.bytes, day.as_bytes());
