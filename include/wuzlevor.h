@@ -8,7 +8,8 @@
  * the rule of the line above that has this name, in parentheses and with its own names replaced; its nodes and their offsets are those of
  * the text after replacement. In the rule of a call that takes no rule file, < and > are bytes that no rule may have.
  * A day file has a line for each event: E, tab, the second of the day in decimal (1 to 5 digits, no leading zero but 0 itself), tab, the
- * event's letter, newline. A job is a line R, tab, rule, newline, and then a day file.
+ * event's letter, newline. Seconds are counted from the day's first midnight, and on when the clocks go back and the day has 25 hours; they
+ * never fall from line to line. A job is a line R, tab, rule, newline, and then a day file.
  * Span (i, j) of a word or a day of n events, 0 <= i <= j <= n, is the events after the first i up to and including the j-th.
  *
  * Buffers. Each is a pointer and the number of its elements. No pointer is NULL, even where the number is 0; each is aligned for its
@@ -42,7 +43,7 @@
  *   or the day, of a job after its rule: 11; then its lines in turn, the first bad line is told, in a line 14, then 12, then 13; 15 last
  *   11  the file is over 2,550 bytes
  *   12  a line is not of the form; place: the line, from 1
- *   13  a second is over 86,399 or below the line before; place: the line
+ *   13  a second is over 89,999 or below the line before; place: the line
  *   14  a 256th line has begun, whatever stands in it; place: 256
  *   15  `letters` or `seconds` is shorter than the day; of wuz_run_job, after all else: `out` is shorter than the text
  *   or, for wuz_judge and wuz_judge_rule_file, after the rule or the file: the first of these that fits

@@ -13,7 +13,7 @@ const DAY: usize = LAST_SECOND as usize + 1;
 const HOUR: usize = 3_600;
 
 /// The first second of the day's last hour.
-const LAST_HOUR: usize = DAY - HOUR;
+const LAST_HOUR_BEGIN: usize = DAY - HOUR;
 
 /// How many seconds beyond the day are of the form.
 const BEYOND: usize = 10usize.pow(MAX_SECOND_DIGITS as u32) - DAY;
@@ -84,8 +84,8 @@ pub fn rising_seconds(random: &mut Random, count: usize) -> Vec<usize> {
         1 => (0, 12),
         2 => (DAY - 10, 10),
         3 => (9_990, 20),
-        4 => (LAST_HOUR, HOUR),
-        5 => (LAST_HOUR - 10, 20),
+        4 => (LAST_HOUR_BEGIN, HOUR),
+        5 => (LAST_HOUR_BEGIN - 10, 20),
         _ => (0, DAY),
     };
     let mut seconds: Vec<usize> = (0..count).map(|_| first + random.below(width)).collect();

@@ -7,15 +7,15 @@ use lib.ListN.{length}
 use Rattle.event.specs.Event.{isEvent}
 use Rattle.decimal.specs.Numeral.{Numeral}
 
--- 01, The day file: "is at most 86,399"
+-- 02 c): "A second may be up to 89,999, so 13 begins at 90,000"
 abbrev pub lastSecond : ℕ
-lastSecond = 86399
+lastSecond = 89999
 
 -- 01: "`E`", the first field of an event's line
 abbrev pub eventTag : ℕ
 eventTag = 69
 
--- one record of a day file: its second and its letter
+-- one record of a day file: its second and its letter; 02 c): "readers now count on from the day's first midnight"
 pub record DayEvent : Type 0 where
   pub second : ℕ
   pub letter : ℕ
@@ -44,7 +44,7 @@ pub record LineAt (s : List ℕ) (e : DayEvent) (rest : List ℕ) : Type 0 where
   pub text : s ≡ lineText digits (e .letter) ++ rest
 
 -- the text s begins with good lines, those of the events l, and rest follows; y is the second of the line before them.
--- 01: the second "is at most 86,399 and never below the line before; equal seconds are fine"
+-- 01: the second is "never below the line before; equal seconds are fine"; 02 c): "Seconds still never fall from line to line."
 pub data Lines : ℕ → List ℕ → List DayEvent → List ℕ → Type 0 where
   done : {y : ℕ} {s : List ℕ} → Lines y s [] s
   more : {y : ℕ} {s mid rest : List ℕ} {e : DayEvent} {l : List DayEvent} → LineAt s e mid → y ≤ e .second → e .second ≤ lastSecond

@@ -29,7 +29,7 @@ pub data DayMeaning (s ls ss : List ℕ) : DayAnswer → Type 0 where
   -- "12: line not of the form, its newline included; place is the day's line, from 1."
   malformed-line : {l : List DayEvent} {rest : List ℕ} → Until s l rest → length l < 255
       → ((e : DayEvent) (after : List ℕ) → LineAt rest e after → ⊥) → DayMeaning s ls ss (refusal 12 (suc (length l)) ls ss)
-  -- "13: second over 86,399 or below the line before; place is the line."
+  -- "13: second over .. or below the line before; place is the line.", where 02 c) gives the last second (`lastSecond`)
   wrong-second : {l : List DayEvent} {rest after : List ℕ} {e : DayEvent} → Until s l rest → length l < 255 → LineAt rest e after
       → (lastSecond < e .second) ⊎ (e .second < secondAfter 0 l) → DayMeaning s ls ss (refusal 13 (suc (length l)) ls ss)
   -- "15: a buffer shorter than n, after all lines"

@@ -10,8 +10,8 @@ ghost use lib.Seq.{sets};
 ghost use Rattle.day.specs.DayFile.{letterOf, secondOf};
 ghost use Rattle.day.specs.DayLines.{checked, dayLines, eventsOf};
 
-// The last second of a day, and how many lines it has at most.
-const LAST_SECOND: u32 = 86399;
+// The last second of any day, that of a 25th hour, and how many lines a day has at most.
+const LAST_SECOND: u32 = 89999;
 
 const MOST_LINES: usize = 255;
 

@@ -26,7 +26,7 @@ fn edges() -> &'static [Request] {
     })
 }
 
-/// The calls in which they find a difference to a library.
+/// The calls in which the edges find a difference to a library.
 fn found(library: &Library) -> Vec<Callee> {
     wrong::found(edges(), library)
 }
