@@ -1,4 +1,5 @@
-//! The line that answers a case: what the call says, and what its buffers hold afterwards.
+//! The line that answers a case: what the call says, and what its buffers hold afterwards; or the
+//! numbers as they are printed.
 
 use crate::stream::Case;
 use crate::{day, judge, printed};
@@ -21,6 +22,7 @@ pub fn line(case: &Case) -> String {
             rule,
             word,
         } => judge_line(rule, word, *limit, lent_table(*table)),
+        Case::Numbers { first, count } => numbers_line(*first, *count),
     }
 }
 
@@ -51,6 +53,12 @@ fn judge_line(rule: &[u8], word: &[u8], limit: u64, mut table: Vec<u64>) -> Stri
     } = judge::judge(rule, word, limit, &mut table);
     let table = printed::list(printed::runs(&table), ",");
     format!("judge\t{number}\t{place}\t{found}\t{count}\t{table}\n")
+}
+
+/// The line of answer to so many numbers from the first on.
+fn numbers_line(first: u64, count: usize) -> String {
+    let numbers = (0..count as u64).map(|after| printed::number(first + after));
+    format!("numbers\t{}\n", printed::list(numbers, ","))
 }
 
 /// A buffer of letters as it is lent: every element tells its place, and none is an event.

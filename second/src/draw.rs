@@ -2,7 +2,7 @@
 
 use crate::random::Random;
 use crate::stream::{Case, MAX_STREAM_BYTES};
-use crate::{random_calls, random_days, random_rules};
+use crate::{random_calls, random_days, random_numbers, random_rules};
 
 /// What draws one random case.
 type Draw = fn(&mut Random) -> Case;
@@ -12,6 +12,7 @@ pub fn kind(name: &str) -> Option<Draw> {
     match name {
         "readers" => Some(reader_case),
         "judge" => Some(random_calls::case),
+        "numbers" => Some(random_numbers::case),
         _ => None,
     }
 }

@@ -1,4 +1,5 @@
-//! The judge calls that document 01 names, and the nearest beyond its bounds: a list to be read.
+//! The judge calls that document 01 names, and the nearest beyond its bounds: a list to be read. Then
+//! a few numbers to print.
 //!
 //! Document 01's numbers stand here as it writes them. Answers stay short: a refusal but 10 prints
 //! the whole table as it is lent, so what is refused has the empty word where it can.
@@ -55,7 +56,16 @@ const TRAPS: [(&str, &str); 7] = [
     ("Z", "zZ"),
 ];
 
-/// All the calls, one group after another; the known days come first, in their order.
+/// Numbers to print: the first ones, some where a digit is added, and the last ones of 64 bits.
+const NUMBERS: [(u64, usize); 5] = [
+    (0, 12),
+    (98, 4),
+    (998, 4),
+    (9_999_999_999_999_999_999, 3),
+    (18_446_744_073_709_551_613, 3),
+];
+
+/// All the cases, one group after another; the known days come first, in their order.
 pub fn cases() -> Vec<Case> {
     let mut cases = Vec::new();
     cases.extend(passing(&KNOWN_DAYS));
@@ -68,6 +78,7 @@ pub fn cases() -> Vec<Case> {
     cases.extend(about_bytes());
     cases.extend(about_bad_rules());
     cases.extend(passing(&TRAPS));
+    cases.extend(NUMBERS.map(|(first, count)| Case::Numbers { first, count }));
     cases
 }
 

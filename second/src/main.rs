@@ -14,8 +14,8 @@ const USAGE: &str = "usage: second < JOB
        second cases SEED COUNT MAX_RULE_BYTES MAX_WORD
        second readings SEED COUNT MAX_BYTES
        second answers < CASES
-       second edges rules|days|judge|judge-large|known
-       second draw SEED COUNT readers|judge";
+       second edges rules|days|judge|judge-large|known|numbers
+       second draw SEED COUNT readers|judge|numbers";
 
 fn main() -> io::Result<ExitCode> {
     let arguments: Vec<String> = env::args().skip(1).collect();

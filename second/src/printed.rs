@@ -1,4 +1,4 @@
-//! How readings, tables and lists look in the lines that the commands print.
+//! How readings, tables, numbers and lists look in the lines that the commands print.
 
 use crate::rule::{self, Kind, Rule};
 
@@ -33,6 +33,12 @@ pub fn runs(table: &[u64]) -> impl Iterator<Item = String> + '_ {
         length => format!("{}*{length}", run[0]),
     };
     table.chunk_by(|one, next| one == next).map(item)
+}
+
+/// A number as `digits:width`: its decimal digits, and how many there are.
+pub fn number(number: u64) -> String {
+    let digits = number.to_string();
+    format!("{digits}:{}", digits.len())
 }
 
 /// The records of a rule as `offset:kind`.

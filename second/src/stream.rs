@@ -1,12 +1,13 @@
-//! Streams of cases for the readers and the judge: how a case is written, and how it is read back.
+//! Streams of cases for the readers, the judge and the printing of numbers: how a case is written,
+//! and how it is read back.
 
 /// The most bytes of a stream that a command prints.
 pub const MAX_STREAM_BYTES: usize = 65_536;
 
-/// The highest number in a header, a judge's limit excepted.
+/// The highest number in a header, a judge's limit and the first number to print excepted.
 const MAX_NUMBER: usize = 99_999;
 
-/// One call of a reader or of the judge.
+/// One call of a reader or of the judge, or a row of numbers to print.
 #[derive(Clone, Debug, PartialEq, Eq)]
 pub enum Case {
     /// A rule text.
@@ -24,6 +25,8 @@ pub enum Case {
         rule: Vec<u8>,
         word: Vec<u8>,
     },
+    /// So many numbers to print, from the first on; the last one has at most 64 bits too.
+    Numbers { first: u64, count: usize },
 }
 
 impl Case {
@@ -48,6 +51,7 @@ impl Case {
                 let header = format!("judge {table} {limit} {} {}", rule.len(), word.len());
                 with_header(header, &[rule, word])
             }
+            Case::Numbers { first, count } => with_header(format!("numbers {first} {count}"), &[]),
         }
     }
 }
@@ -99,6 +103,12 @@ fn read_case(stream: &[u8]) -> Option<(Case, &[u8])> {
             };
             (case, rest)
         }
+        [b"numbers", first, count] => {
+            let (first, count) = (read_number(first)?, read_length(count)?);
+            // The last number, if there is one, must not be beyond 64 bits.
+            first.checked_add(count.saturating_sub(1) as u64)?;
+            (Case::Numbers { first, count }, stream)
+        }
         _ => return None,
     };
     Some((case, rest.strip_prefix(b"\n")?))
@@ -110,7 +120,7 @@ fn read_bytes<'a>(stream: &'a [u8], length: &[u8]) -> Option<(Vec<u8>, &'a [u8])
     Some((bytes.to_vec(), rest))
 }
 
-/// Reads the length of a text or of a lent buffer from a header.
+/// Reads the length of a text, of a lent buffer or of a row of numbers from a header.
 fn read_length(digits: &[u8]) -> Option<usize> {
     let length = usize::try_from(read_number(digits)?).ok()?;
     (length <= MAX_NUMBER).then_some(length)

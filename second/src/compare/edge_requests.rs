@@ -8,7 +8,7 @@ use super::{job_edges, rule_file_requests};
 use crate::limits::LETTERS;
 use crate::{edges, job, letter_edges, table};
 
-/// The streams of cases that `second edges` prints.
+/// The streams of cases that `second edges` prints, but for `numbers`, which has none with a call.
 const STREAMS: [&str; 5] = ["rules", "days", "judge", "judge-large", "known"];
 
 /// The seed of the noise in what is lent.
@@ -29,7 +29,7 @@ pub fn requests() -> Vec<Request> {
     for name in STREAMS {
         let cases = edges::named(name).expect("the streams of edges are named");
         let asked = |case| Asked::case(case, NODES + BEYOND);
-        requests.extend(cases.into_iter().map(asked).flat_map(in_all_dirt));
+        requests.extend(cases.into_iter().filter_map(asked).flat_map(in_all_dirt));
     }
     let jobs = job_edges::jobs().into_iter();
     let jobs = jobs.chain(job_edges::readers_jobs()).flat_map(with_outs);

@@ -91,7 +91,7 @@ impl Draws {
     /// A day to read.
     fn day(&self, random: &mut Random) -> Asked {
         if random.one_in(2) {
-            return Asked::case(random_days::case(random), NODES);
+            return with_call(random_days::case(random));
         }
         let file = if random.one_in(2) {
             near_edge(random, &self.days)
@@ -158,12 +158,17 @@ fn near_edge(random: &mut Random, edges: &[Vec<u8>]) -> Vec<u8> {
     bytes
 }
 
+/// The call for a random day or a random judge case.
+fn with_call(case: Case) -> Asked {
+    Asked::case(case, NODES).expect("days and judge cases have calls")
+}
+
 /// A judge call: one of the stream's, one for a bad rule, or one with a word's length at a bound.
 fn judgement(random: &mut Random) -> Asked {
     match random.below(12) {
         0 => by_bad_rule(random),
         1..=3 => at_bounds(random),
-        _ => Asked::case(random_calls::case(random), NODES),
+        _ => with_call(random_calls::case(random)),
     }
 }
 

@@ -51,9 +51,9 @@ pub enum Asked {
 }
 
 impl Asked {
-    /// A case of a stream; a rule's nodes get such a buffer.
-    pub fn case(case: Case, nodes: usize) -> Self {
-        match case {
+    /// A case of a stream, if there is a call for it; a rule's nodes get such a buffer.
+    pub fn case(case: Case, nodes: usize) -> Option<Self> {
+        let asked = match case {
             Case::Rule(text) => Asked::Rule { text, nodes },
             Case::Day {
                 letters,
@@ -75,7 +75,10 @@ impl Asked {
                 limit,
                 table,
             },
-        }
+            // No call prints a number alone.
+            Case::Numbers { .. } => return None,
+        };
+        Some(asked)
     }
 
     /// Which call it is.

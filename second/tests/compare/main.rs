@@ -4,6 +4,7 @@
 mod check;
 mod commands;
 mod draws;
+mod edges;
 mod file_verdict;
 mod hours;
 mod jobs;

@@ -77,7 +77,7 @@ fn the_highest_numbers_of_a_header_are_taken() {
 }
 
 /// Streams that have no whole case at their beginning.
-const NO_CASES: [&[u8]; 53] = [
+const NO_CASES: [&[u8]; 88] = [
     b"\n",
     b"x",
     b"x\n",
@@ -131,6 +131,41 @@ const NO_CASES: [&[u8]; 53] = [
     b"judge 0 0 00 0\n\n",
     b"judge 0 0 0 00\n\n",
     b"Judge 0 0 0 0\n\n",
+    b"numbers",
+    b"numbers\n",
+    b"numbers 0\n\n",
+    b"numbers 0 0",
+    b"numbers 0 0\n",
+    b"numbers 0 1\n",
+    b"numbers 0 1\n0\n",
+    b"numbers 0 0 0\n\n",
+    b"numbers  0 0\n\n",
+    b"numbers 0  0\n\n",
+    b"numbers 0 0 \n\n",
+    b"numbers\t0 0\n\n",
+    b" numbers 0 0\n\n",
+    b"numbers 0 0\r\n\n",
+    b"numbers 00 0\n\n",
+    b"numbers 01 1\n\n",
+    b"numbers 0 00\n\n",
+    b"numbers 0 01\n\n",
+    b"numbers +1 1\n\n",
+    b"numbers -1 1\n\n",
+    b"numbers 1 +1\n\n",
+    b"numbers 1 -1\n\n",
+    b"numbers x 1\n\n",
+    b"numbers 1 x\n\n",
+    b"numbers 0 100000\n\n",
+    b"numbers 18446744073709551616 0\n\n",
+    b"numbers 18446744073709551616 1\n\n",
+    b"numbers 018446744073709551615 1\n\n",
+    b"numbers 100000000000000000000 1\n\n",
+    b"numbers 0 18446744073709551616\n\n",
+    b"numbers 18446744073709551615 2\n\n",
+    b"numbers 18446744073709551614 3\n\n",
+    b"numbers 18446744073709451618 99999\n\n",
+    b"number 0 1\n\n",
+    b"Numbers 0 1\n\n",
 ];
 
 #[test]
@@ -176,6 +211,8 @@ fn wrong_arguments_are_told_the_usage() {
         "edges 1",
         "edges x",
         "edges judge 1",
+        "edges number",
+        "edges numbers 1",
         "draw",
         "draw 1",
         "draw 1 2",
@@ -184,6 +221,8 @@ fn wrong_arguments_are_told_the_usage() {
         "draw x 2 judge",
         "draw 1 -2 judge",
         "draw 1 2 judge 3",
+        "draw 1 numbers",
+        "draw 1 2 numbers 3",
     ] {
         let output = run(arguments, b"");
         assert_eq!(output.status.code(), Some(2), "{arguments}");
@@ -191,8 +230,8 @@ fn wrong_arguments_are_told_the_usage() {
         let message = String::from_utf8(output.stderr).unwrap();
         for usage in [
             "second answers < CASES",
-            "second edges rules|days|judge|judge-large|known",
-            "second draw SEED COUNT readers|judge",
+            "second edges rules|days|judge|judge-large|known|numbers\n",
+            "second draw SEED COUNT readers|judge|numbers\n",
         ] {
             assert!(message.contains(usage));
         }

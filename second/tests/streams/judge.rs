@@ -178,10 +178,13 @@ fn ones(numbers: &[u64]) -> u64 {
 
 /// The calls of a stream that a command prints, with their answers.
 pub fn calls(arguments: &str) -> Vec<(Call, Answer)> {
-    let calls = answered(&stream(arguments)).into_iter();
-    calls
-        .map(|(case, line)| (Call::new(&case), Answer::new(&line)))
-        .collect()
+    calls_of(&answered(&stream(arguments)))
+}
+
+/// The calls that cases are, with their answers.
+pub fn calls_of(answered: &[(Case, String)]) -> Vec<(Call, Answer)> {
+    let call = |(case, line): &(Case, String)| (Call::new(case), Answer::new(line));
+    answered.iter().map(call).collect()
 }
 
 /// Checks an answer against the definitions, as far as the word's length allows.

@@ -3,16 +3,19 @@
 use std::collections::BTreeSet;
 use std::sync::OnceLock;
 
-use crate::judge::{calls, check_answer, Answer, Call};
+use crate::judge::{calls_of, check_answer, Answer, Call};
 use crate::judge_edges::{
     all_spans, check_spans, first_block, in_order_of_records, known_days, of, with_limit,
 };
-use crate::{answer_lines, cases, stream};
+use crate::{answer_lines, answered, cases, stream};
 
-/// The edges with their answers, asked for once for all tests.
+/// How many judge calls there are; they come before all else.
+const CALLS: usize = 50;
+
+/// The judge calls with their answers, asked for once for all tests.
 fn edges() -> &'static [(Call, Answer)] {
     static EDGES: OnceLock<Vec<(Call, Answer)>> = OnceLock::new();
-    EDGES.get_or_init(|| calls("edges known"))
+    EDGES.get_or_init(|| calls_of(&answered(&stream("edges known"))[..CALLS]))
 }
 
 /// The limit that the program would lend.
@@ -40,10 +43,12 @@ fn the_stream_is_answered_whole_and_stays_small() {
     let stream = stream("edges known");
     assert!(stream.len() <= 6_000, "{} bytes", stream.len());
     let cases = cases(&stream);
-    assert!(cases.iter().all(|case| case.header[0] == "judge"));
+    let (calls, numbers) = cases.split_at(CALLS);
+    assert!(calls.iter().all(|case| case.header[0] == "judge"));
+    assert!(numbers.iter().all(|case| case.header[0] == "numbers"));
     let lines = answer_lines(&stream);
     assert_eq!(lines.len(), cases.len());
-    assert_eq!(lines.len(), 50);
+    assert_eq!(lines.len(), 55);
     let bytes: usize = lines.iter().map(|line| line.len() + 1).sum();
     assert!(bytes <= 60_000, "{bytes} bytes of answers");
 }
@@ -229,7 +234,7 @@ fn the_traps_are_walked() {
 }
 
 #[test]
-fn the_traps_of_the_letters_come_last() {
+fn the_traps_of_the_letters_are_the_last_calls() {
     check_spans(edges(), b"A", b"A", &[(0, 1)]);
     check_spans(
         edges(),
@@ -241,4 +246,17 @@ fn the_traps_of_the_letters_come_last() {
     let last = edges()[47..].iter();
     let words: Vec<&[u8]> = last.map(|(call, _)| &call.word[..]).collect();
     assert_eq!(words, [&b"A"[..], b"aA", b"zZ"]);
+}
+
+#[test]
+fn a_few_numbers_end_the_stream() {
+    let lines = answer_lines(&stream("edges known"));
+    let expected = [
+        "numbers\t0:1,1:1,2:1,3:1,4:1,5:1,6:1,7:1,8:1,9:1,10:2,11:2",
+        "numbers\t98:2,99:2,100:3,101:3",
+        "numbers\t998:3,999:3,1000:4,1001:4",
+        "numbers\t9999999999999999999:19,10000000000000000000:20,10000000000000000001:20",
+        "numbers\t18446744073709551613:20,18446744073709551614:20,18446744073709551615:20",
+    ];
+    assert_eq!(lines[CALLS..], expected);
 }

@@ -17,8 +17,16 @@ mod judge_answers;
 mod judge_draw;
 mod judge_edges;
 mod known_edges;
+mod number_answers;
+mod number_draw;
+mod number_edges;
+#[path = "../common/odometer.rs"]
+mod odometer;
+mod printing;
+mod wrong_numbers;
 
-/// A case as a stream holds it: the fields of its header but the last length, and its bytes.
+/// A case as a stream holds it: the fields of its header but the last length, and its bytes; a row
+/// of numbers has no length and no bytes.
 struct Case {
     header: Vec<String>,
     bytes: Vec<u8>,
@@ -66,11 +74,7 @@ fn cases(mut stream: &[u8]) -> Vec<Case> {
         let end = stream.iter().position(|&byte| byte == b'\n').unwrap();
         let header = String::from_utf8(stream[..end].to_vec()).unwrap();
         let mut header: Vec<String> = header.split(' ').map(String::from).collect();
-        let length_of = |field: &String| -> usize { field.parse().unwrap() };
-        let mut length = length_of(&header.pop().unwrap());
-        if header[0] == "judge" {
-            length += length_of(&header[3]);
-        }
+        let length = take_length(&mut header);
         let rest = &stream[end + 1..];
         let bytes = rest[..length].to_vec();
         assert_eq!(rest[length], b'\n');
@@ -78,6 +82,20 @@ fn cases(mut stream: &[u8]) -> Vec<Case> {
         stream = &rest[length + 1..];
     }
     cases
+}
+
+/// How many bytes a case has by its header, whose last length is taken off.
+fn take_length(header: &mut Vec<String>) -> usize {
+    if header[0] == "numbers" {
+        return 0;
+    }
+    let length_of = |field: &String| -> usize { field.parse().unwrap() };
+    let length = length_of(&header.pop().unwrap());
+    if header[0] == "judge" {
+        length + length_of(&header[3])
+    } else {
+        length
+    }
 }
 
 /// The lines of answer to a well-formed stream, without their newlines.
