@@ -1,11 +1,12 @@
 // Takes the cases apart.
 use crate::judgements::answer_judge;
+use crate::numbers::answer_numbers;
 use crate::show::answer_day;
 use crate::show::answer_rule;
 ghost use Prim.Native.Nat.{_≤_};
 ghost use lib.ListN.{length};
 
-// The largest limit.
+// The largest 64-bit number.
 const MOST: u64 = 18446744073709551615;
 
 // A number in a text, and the offset behind its digits.
@@ -42,14 +43,14 @@ fn number_at(s: &[u8], from: usize) -> Number
     }
 }
 
-// A limit in a text, and the offset behind its digits.
-struct Limit {
+// A 64-bit number in a text, and the offset behind its digits.
+struct LongNumber {
     value: u64,
     end: usize,
 }
 
-// The limit that begins at an offset; it stops before a digit that would pass 64 bits.
-fn limit_at(s: &[u8], from: usize) -> Limit
+// The 64-bit number that begins at an offset; it stops before a digit that would pass 64 bits.
+fn long_number_at(s: &[u8], from: usize) -> LongNumber
     requires { ⌜ from ≤ length (now s) ⌝ }
     ensures { λ r. ⌜ r .end ≤ length (now (s .entry)) ⌝ }
 {
@@ -57,21 +58,21 @@ fn limit_at(s: &[u8], from: usize) -> Limit
     for i in from..s.len() {
         let b = s[i];
         if b < b'0' || b'9' < b || MOST / 10 < value {
-            return Limit {
+            return LongNumber {
                 value: value,
                 end: i,
             };
         }
         let digit = digit_of(b) as u64;
         if MOST - value * 10 < digit {
-            return Limit {
+            return LongNumber {
                 value: value,
                 end: i,
             };
         }
         value = value * 10 + digit;
     }
-    Limit {
+    LongNumber {
         value: value,
         end: s.len(),
     }
@@ -130,7 +131,7 @@ fn judge_case(s: &[u8]) -> usize {
     if s.len() <= table.end {
         return 0;
     }
-    let limit = limit_at(s, table.end + 1);
+    let limit = long_number_at(s, table.end + 1);
     if s.len() <= limit.end {
         return 0;
     }
@@ -166,6 +167,31 @@ fn judge_texts(s: &[u8], table: usize, limit: u64) -> usize
     to + 1
 }
 
+// Answers a case of numbers at the front, `numbers FIRST COUNT`, and gives its length; 0 where it is not whole or the last of the numbers would
+// pass 64 bits.
+fn numbers_case(s: &[u8]) -> usize {
+    if s.len() < 8 {
+        return 0;
+    }
+    let first = long_number_at(s, 8);
+    if s.len() <= first.end {
+        return 0;
+    }
+    let count = number_at(s, first.end + 1);
+    if s.len() - count.end < 2 {
+        return 0;
+    }
+    if count.value == 0 {
+        answer_numbers(first.value, 0);
+        return count.end + 2;
+    }
+    if MOST - first.value < (count.value as u64) - 1 {
+        return 0;
+    }
+    answer_numbers(first.value, count.value);
+    count.end + 2
+}
+
 // Answers the case at the front and gives its length; 0 where it is not whole.
 fn answer_case(s: &[u8]) -> usize {
     if s.len() == 0 {
@@ -174,6 +200,7 @@ fn answer_case(s: &[u8]) -> usize {
     match s[0] {
         b'r' => rule_case(s),
         b'j' => judge_case(s),
+        b'n' => numbers_case(s),
         _ => day_case(s),
     }
 }

@@ -1,6 +1,7 @@
 // Calls the judge and prints what it answers.
+use crate::numbers::print_decimal;
+use crate::numbers::print_number;
 use crate::show::print;
-use crate::show::print_number;
 use crate::show::print_verdict;
 ghost use Prim.Native.Nat.{_+_, _≤_, _<_};
 ghost use lib.ListN.{length};
@@ -31,7 +32,7 @@ fn print_table(table: &[u64]) {
         if 0 < i {
             print(b",");
         }
-        io::print_decimal(1, table[i]);
+        print_decimal(table[i]);
         if 1 < times {
             print_number(b'*', times);
         }

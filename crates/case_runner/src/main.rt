@@ -1,7 +1,9 @@
-// Runs a stream of cases from standard input through the public calls, the two readers and the judge, and prints the answers.
+// Runs a stream of cases from standard input through the public calls, the two readers and the judge, and through the writer of numbers, and
+// prints the answers.
 // second/README.md says how cases and answers are written.
 mod cases;
 mod judgements;
+mod numbers;
 mod show;
 
 fn main() {

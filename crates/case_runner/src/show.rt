@@ -1,4 +1,6 @@
 // Makes the calls and prints what they answer.
+use crate::numbers::print_decimal;
+use crate::numbers::print_number;
 use day::Outcome as DayOutcome;
 use regex::Kind;
 use regex::Node;
@@ -8,12 +10,6 @@ ghost use lib.ListN.{length};
 
 pub fn print(text: &[u8]) {
     io::write_all(1, text);
-}
-
-// A number behind a sign.
-pub fn print_number(sign: u8, n: usize) {
-    print(&[sign]);
-    io::print_decimal(1, n as u64);
 }
 
 // The sign of a kind; a dot stands for concatenation.
@@ -31,7 +27,7 @@ fn sign_of(kind: Kind) -> u8 {
 }
 
 fn print_node(node: Node) {
-    io::print_decimal(1, node.offset as u64);
+    print_decimal(node.offset as u64);
     let kind = node.kind;
     print(&[b':', sign_of(kind)]);
 }
@@ -39,7 +35,7 @@ fn print_node(node: Node) {
 // A 64-bit number behind a tab.
 fn print_field(n: u64) {
     print(b"\t");
-    io::print_decimal(1, n);
+    print_decimal(n);
 }
 
 // Number, place, found and count.
@@ -91,7 +87,7 @@ fn print_element(i: usize, x: u32) {
     if 0 < i {
         print(b",");
     }
-    io::print_decimal(1, x as u64);
+    print_decimal(x as u64);
 }
 
 fn wide(b: u8) -> u32 {

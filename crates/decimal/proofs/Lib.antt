@@ -1,3 +1,4 @@
 -- Laws of decimal numerals.
 pub mod NumeralLaws
+mod Powers
 mod Spelling

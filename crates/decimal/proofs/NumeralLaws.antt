@@ -1,6 +1,7 @@
--- Laws of decimal numerals: `decimal` is the one numeral of a number, how many digits it has, and how it is made by ten. Assumes nothing.
+-- Laws of decimal numerals: `decimal` is the one numeral of a number, and how many digits it has. Assumes nothing.
 use Prim.Native.Nat.{ℕ, zero, suc, _+_, _-_, _*_, _/_, _%_, _^_, _≤_, _<_}
 use native.Mathlib.Omega.{arith}
+use native.Mathlib.Nat.{lt-of-lt-of-le, mul-le-mul-right, one-le-pow, pow-succ'}
 use mathlib.Core.Path.{_≡_, refl, sym, ap, subst, _∙_}
 use mathlib.Core.Bool.{Bool, true, false, _&&_}
 use mathlib.Core.List.{List, [], _∷_, _++_}
@@ -41,7 +42,22 @@ value-grows : (x : ℕ) (ds : List ℕ) → x ≤ valueFrom x ds
 value-grows x [] = omega arith
 value-grows x (b ∷ ds) = omega (arith, value-grows (x * 10 + (b - 48)) ds)
 
+-- n digits behind those that wrote x write less than (x + 1) times ten to the power n
+digit-room : (x d p : ℕ) → d ≤ 9 → (x * 10 + d + 1) * p ≤ (x + 1) * (10 * p)
+digit-room x d p h = let m : (d + 1) * p ≤ 10 * p = mul-le-mul-right p (omega arith) in omega arith
+
+value-below : (x : ℕ) (ds : List ℕ) → AllDigits ds → valueFrom x ds < (x + 1) * 10 ^ length ds
+value-below x [] a = omega arith
+value-below x (b ∷ ds) a =
+    let u = digit-between b (a .0) in
+    let r = digit-room x (b - 48) (10 ^ length ds) (omega arith) in
+    lt-of-lt-of-le (value-below (x * 10 + (b - 48)) ds (a .1)) (rw pow-succ' r)
+
 -- ---- one digit, and a digit behind others
+
+pub digit-behind : (ds : List ℕ) (d : ℕ) → AllDigits ds → d < 10
+    → AllDigits (ds ++ (48 + d) ∷ []) × (valueOf (ds ++ (48 + d) ∷ []) ≡ valueOf ds * 10 + d)
+digit-behind ds d a h = (digits-append ds ((48 + d) ∷ []) a (digit-is d h, tt), omega (arith, value-append 0 ds ((48 + d) ∷ [])))
 
 one-numeral : (x : ℕ) → x < 10 → Numeral ((48 + x) ∷ []) x
 one-numeral x h = record {
@@ -103,7 +119,7 @@ ends (c ∷ ds) x n =
 
 -- ---- the computed numeral, where d + 1 digits are enough
 
-pub by-ten : (x : ℕ) → (x < 10) ⊎ (10 ≤ x)
+by-ten : (x : ℕ) → (x < 10) ⊎ (10 ≤ x)
 by-ten x = go (ltb x 10) refl
   where
     go : (t : Bool) → ltb x 10 ≡ t → (x < 10) ⊎ (10 ≤ x)
@@ -121,15 +137,6 @@ more-digits d x h = rw (le-ltb x 10 h)
 
 tenth-below : (d x : ℕ) → x < 10 ^ suc (suc d) → x / 10 < 10 ^ suc d
 tenth-below d x h = omega arith
-
--- a digit more than enough is not written
-enough : (d x : ℕ) → x < 10 ^ suc d → decimalIn (suc d) x ≡ decimalIn d x
-enough zero x h = one-digit 1 x h ∙ sym (one-digit 0 x h)
-enough (suc d) x h = go (by-ten x) (enough d (x / 10) (tenth-below d x h))
-  where
-    go : (x < 10) ⊎ (10 ≤ x) → decimalIn (suc d) (x / 10) ≡ decimalIn d (x / 10) → decimalIn (suc (suc d)) x ≡ decimalIn (suc d) x
-    go (inl l) e = one-digit (suc (suc d)) x l ∙ sym (one-digit (suc d) x l)
-    go (inr g) e = more-digits (suc d) x g ∙ ap (λ (ds : List ℕ). ds ++ (48 + x % 10) ∷ []) e ∙ sym (more-digits d x g)
 
 numeral-in : (d x : ℕ) → x < 10 ^ suc d → Numeral (decimalIn d x) x
 numeral-in zero x h = rw (one-digit 0 x h) (one-numeral x h)
@@ -177,6 +184,14 @@ few-in (suc d) (suc e) x h = go (by-ten x) (few-in d e (x / 10) (tenth-below e x
     go (inl l) k = omega (arith, ap length (one-digit (suc d) x l))
     go (inr g) k = omega (arith, digit-added d x g)
 
+-- and one that reaches a power of ten has more digits than that, if more are allowed
+many-in : (d e x : ℕ) → e ≤ d → 10 ^ e ≤ x → e < length (decimalIn d x)
+many-in d zero x k h = omega (arith, length-in d x)
+many-in zero (suc e) x k h = absurd (omega arith)
+many-in (suc d) (suc e) x k h =
+    let p = one-le-pow e 10 (omega arith) in
+    omega (arith, digit-added d x (omega arith), many-in d e (x / 10) (omega arith) (omega arith))
+
 -- ---- the laws that others cite
 
 pub decimal-numeral : (x : ℕ) → x < 2 ^ 64 → Numeral (decimal x) x
@@ -200,12 +215,22 @@ decimal-few (suc d) x h l = few-in 19 d x l
 pub decimal-three : (x : ℕ) → x ≤ 999 → length (decimal x) ≤ 3
 decimal-three x h = decimal-few 3 x (omega arith) (omega arith)
 
--- by the last digit
-pub decimal-one : (x : ℕ) → x < 10 → decimal x ≡ (48 + x) ∷ []
-decimal-one x h = one-digit 19 x h
+pub decimal-many : (e x : ℕ) → e < 20 → 10 ^ e ≤ x → e < length (decimal x)
+decimal-many e x h l = many-in 19 e x (omega arith) l
 
-pub decimal-more : (x : ℕ) → 10 ≤ x → x < 2 ^ 64 → decimal x ≡ decimal (x / 10) ++ (48 + x % 10) ∷ []
-decimal-more x h l = more-digits 18 x h ∙ ap (λ (ds : List ℕ). ds ++ (48 + x % 10) ∷ []) (sym (enough 18 (x / 10) (omega arith)))
+pub decimal-below : (x : ℕ) → x < 2 ^ 64 → x < 10 ^ length (decimal x)
+decimal-below x h = let n = decimal-numeral x h in omega (arith, value-below 0 (decimal x) (n .digits), n .value)
 
-pub decimal-added : (x : ℕ) → 10 ≤ x → x < 2 ^ 64 → length (decimal x) ≡ length (decimal (x / 10)) + 1
-decimal-added x h l = ap length (decimal-more x h l) ∙ length-append (decimal (x / 10)) ((48 + x % 10) ∷ [])
+-- digits that write x, as many as its numeral has, are its numeral
+pub digits-are : {ds : List ℕ} {x : ℕ} → x < 2 ^ 64 → AllDigits ds → valueOf ds ≡ x → length ds ≡ length (decimal x) → ds ≡ decimal x
+digits-are {ds} {x} h a v n =
+    numeral-is h (record { some = omega (arith, decimal-some x); digits = a; leading = λ e. no-zero ds a v n e; value = v })
+  where
+    -- digits behind a 0 write less than a numeral as long as all of them
+    no-zero : (ds : List ℕ) → AllDigits ds → valueOf ds ≡ x → length ds ≡ length (decimal x) → getD ds 0 0 ≡ 48 → length ds ≡ 1
+    no-zero [] a v n e = absurd (omega (arith, decimal-some x))
+    no-zero (b ∷ []) a v n e = refl
+    no-zero (b ∷ c ∷ ds) a v n e =
+        let z : 0 * 10 + (b - 48) ≡ 0 = omega arith in
+        let w : valueFrom 0 (c ∷ ds) ≡ x = subst (λ (k : ℕ). valueFrom k (c ∷ ds) ≡ x) z v in
+        absurd (omega (arith, decimal-few (length (c ∷ ds)) x (omega arith) (omega (arith, value-below 0 (c ∷ ds) (a .1)))))

@@ -9,7 +9,8 @@ unfoldable pub decimalIn : ℕ → ℕ → List ℕ
 decimalIn zero x = (48 + x % 10) ∷ []
 decimalIn (suc d) x = cond (ltb x 10) ((48 + x) ∷ []) (decimalIn d (x / 10) ++ (48 + x % 10) ∷ [])
 
--- 01, The program: "decimal without leading zeros, their digits made by dividing by ten"; 20 digits are enough for 64 bits.
--- That it is the one numeral of x are `decimal-numeral` and `numeral-is` in proofs/NumeralLaws.
+-- 01, The program: "decimal without leading zeros"; 20 digits are enough for 64 bits. The code makes them without dividing, as 02 d) asks:
+-- "subtract from a table of the powers of ten". That this is the one numeral of x are `decimal-numeral` and `numeral-is` in
+-- proofs/NumeralLaws.
 abbrev pub decimal : ℕ → List ℕ
 decimal x = decimalIn 19 x

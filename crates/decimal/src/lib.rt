@@ -1,7 +1,7 @@
 // Numbers as decimal text.
 ghost use mathlib.Core.Path.{_≡_};
 ghost use mathlib.Core.List.{_++_};
-ghost use Prim.Native.Nat.{_-_};
+ghost use Prim.Native.Nat.{_+_, _-_, _/_, _%_, _<_};
 ghost use lib.ListN.{length, take, replicate};
 ghost use Rattle.decimal.specs.Numeral.{Numeral};
 ghost use Rattle.decimal.specs.Decimal.{decimal};
@@ -9,36 +9,68 @@ ghost use Rattle.decimal.specs.Decimal.{decimal};
 // The most digits of a 64-bit number.
 const MOST_DIGITS: usize = 20;
 
+// The powers of ten that are 64-bit numbers: entry i is ten to the power i.
+const POWERS: [u64; MOST_DIGITS] = [
+    1,
+    10,
+    100,
+    1000,
+    10000,
+    100000,
+    1000000,
+    10000000,
+    100000000,
+    1000000000,
+    10000000000,
+    100000000000,
+    1000000000000,
+    10000000000000,
+    100000000000000,
+    1000000000000000,
+    10000000000000000,
+    100000000000000000,
+    1000000000000000000,
+    10000000000000000000,
+];
+
 // A number's digits: the first `len` of the bytes; the others are 0.
 pub struct Digits {
     pub bytes: [u8; MOST_DIGITS],
     pub len: usize,
 }
 
-// How many digits write x: one, and one more for each division by ten until one digit is left.
+// One digit of a number, and what is left of the number behind it.
+struct Step {
+    digit: u8,
+    rest: u64,
+}
+
+// How many digits write x: one, and one more for each power from ten on that is not above x.
 pub fn width(x: u64) -> usize
     ensures { λ r. ⌜ r ≡ length (decimal x) ⌝ }
 {
-    let mut front = x;
+    let powers = POWERS;
     let mut n: usize = 1;
-    while 10 <= front {
-        front = front / 10;
+    while n < MOST_DIGITS && powers[n] <= x {
         n += 1;
     }
     n
 }
 
-// Writes the digits of x, from the last to the first, where there is room for just these.
-fn spell(x: u64, digits: &mut [u8])
-    requires { ⌜ length (now digits) ≡ length (decimal x) ⌝ }
-    ensures { λ _. ⌜ now (digits .exit) ≡ decimal x ⌝ }
+// The digit of x at a power of ten: how often the power can be subtracted.
+fn digit_step(x: u64, power: u64) -> Step
+    requires { ⌜ (0 < power) × (x / power < 10) ⌝ }
+    ensures { λ r. ⌜ (r .digit ≡ 48 + x / power) × (r .rest ≡ x % power) ⌝ }
 {
+    let mut digit = b'0';
     let mut rest = x;
-    let mut i = digits.len();
-    while 0 < i {
-        i -= 1;
-        digits[i] = b'0' + ((rest % 10) as u8);
-        rest = rest / 10;
+    while power <= rest {
+        rest -= power;
+        digit += 1;
+    }
+    Step {
+        digit: digit,
+        rest: rest,
     }
 }
 
@@ -47,11 +79,19 @@ pub fn digits_of(x: u64) -> Digits
     ensures value { λ r. ⌜ (r .bytes ≡ decimal x ++ replicate (20 - length (decimal x)) 0) × (r .len ≡ length (decimal x)) ⌝ }
     ensures meaning { λ r. ⌜ Numeral (take (r .len) (r .bytes)) x ⌝ }
 {
-    let mut bytes = [0u8; MOST_DIGITS];
+    let powers = POWERS;
     let len = width(x);
-    spell(x, &mut bytes[..len]);
-    Digits {
-        bytes: bytes,
+    let mut digits = Digits {
+        bytes: [0u8; MOST_DIGITS],
         len: len,
+    };
+    let mut rest = x;
+    let last = len - 1;
+    for i in 0..last {
+        let step = digit_step(rest, powers[last - i]);
+        digits.bytes[i] = step.digit;
+        rest = step.rest;
     }
+    digits.bytes[last] = b'0' + (rest as u8);
+    digits
 }

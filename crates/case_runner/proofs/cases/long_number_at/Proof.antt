@@ -1,11 +1,11 @@
--- `limit_at` is safe and ends. Assumes nothing.
+-- `long_number_at` is safe and ends. Assumes nothing.
 use borrow.Author.Needs.{needs}
 use borrow.Author.Tests.{ltb-false}
 use native.Mathlib.Omega.{arith}
 use Prim.Native.Nat.{_-_, _/_, _≤_}
 use lib.ListN.{length}
-use Rattle.case_runner.proofs.cases.limit_at.Statement.{statement}
-use Rattle.case_runner.proofs.cases.limit_at.Tie as tie
+use Rattle.case_runner.proofs.cases.long_number_at.Statement.{statement}
+use Rattle.case_runner.proofs.cases.long_number_at.Tie as tie
 
 abbrev Inv-loop : tie.InvT-loop
 Inv-loop s from value₀ i₀ i-end value i = i-end ≤ length s
@@ -13,8 +13,8 @@ Inv-loop s from value₀ i₀ i-end value i = i-end ≤ length s
 abbrev μ-loop : tie.MeasureT-loop
 μ-loop s from value₀ i₀ i-end value i = i-end - i
 
-pub limit-at-spec : {M : Type 1} → statement M
-limit-at-spec =
+pub long-number-at-spec : {M : Type 1} → statement M
+long-number-at-spec =
     tie.close (tie.spec Inv-loop μ-loop
     (λ c. search needs)
     (λ c. search needs)
