@@ -9,7 +9,8 @@ ghost use Rattle.decimal.specs.Decimal.{decimal};
 // The most digits of a 64-bit number.
 const MOST_DIGITS: usize = 20;
 
-// The powers of ten that are 64-bit numbers: entry i is ten to the power i.
+// The powers of ten that are 64-bit numbers: entry i is ten to the power i. A function copies the table once: the compiler stores it anew
+// wherever the constant is named.
 const POWERS: [u64; MOST_DIGITS] = [
     1,
     10,
@@ -92,6 +93,7 @@ pub fn digits_of(x: u64) -> Digits
         digits.bytes[i] = step.digit;
         rest = step.rest;
     }
+    // what is left is below ten
     digits.bytes[last] = b'0' + (rest as u8);
     digits
 }
