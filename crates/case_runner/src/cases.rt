@@ -167,17 +167,21 @@ fn judge_texts(s: &[u8], table: usize, limit: u64) -> usize
     to + 1
 }
 
-// Answers a case of numbers at the front, `numbers FIRST COUNT`, and gives its length; 0 where it is not whole or the last of the numbers would
-// pass 64 bits.
+// Answers a row of numbers at the front, `numbers FIRST COUNT`, and gives its length; 0 where it is not whole, or where a number of it has over
+// 64 bits.
 fn numbers_case(s: &[u8]) -> usize {
     if s.len() < 8 {
         return 0;
     }
     let first = long_number_at(s, 8);
-    if s.len() <= first.end {
+    let end = first.end;
+    if s.len() <= end {
         return 0;
     }
-    let count = number_at(s, first.end + 1);
+    if s[end] != b' ' {
+        return 0;
+    }
+    let count = number_at(s, end + 1);
     if s.len() - count.end < 2 {
         return 0;
     }

@@ -1,7 +1,7 @@
 // Calls the judge and prints what it answers.
-use crate::numbers::print_decimal;
-use crate::numbers::print_number;
-use crate::show::print;
+use crate::output::print;
+use crate::output::print_decimal;
+use crate::output::print_number;
 use crate::show::print_verdict;
 ghost use Prim.Native.Nat.{_+_, _≤_, _<_};
 ghost use lib.ListN.{length};

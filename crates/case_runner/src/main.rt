@@ -4,6 +4,7 @@
 mod cases;
 mod judgements;
 mod numbers;
+mod output;
 mod show;
 
 fn main() {

@@ -1,16 +1,13 @@
 // Makes the calls and prints what they answer.
-use crate::numbers::print_decimal;
-use crate::numbers::print_number;
+use crate::output::print;
+use crate::output::print_decimal;
+use crate::output::print_number;
 use day::Outcome as DayOutcome;
 use regex::Kind;
 use regex::Node;
 use verdict::Verdict;
 ghost use mathlib.Core.Path.{_≡_};
 ghost use lib.ListN.{length};
-
-pub fn print(text: &[u8]) {
-    io::write_all(1, text);
-}
 
 // The sign of a kind; a dot stands for concatenation.
 fn sign_of(kind: Kind) -> u8 {

@@ -1,4 +1,3 @@
 -- Laws of decimal numerals.
 pub mod NumeralLaws
-mod Powers
 mod Spelling

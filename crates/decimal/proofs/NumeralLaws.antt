@@ -42,10 +42,10 @@ value-grows : (x : ℕ) (ds : List ℕ) → x ≤ valueFrom x ds
 value-grows x [] = omega arith
 value-grows x (b ∷ ds) = omega (arith, value-grows (x * 10 + (b - 48)) ds)
 
--- n digits behind those that wrote x write less than (x + 1) times ten to the power n
 digit-room : (x d p : ℕ) → d ≤ 9 → (x * 10 + d + 1) * p ≤ (x + 1) * (10 * p)
 digit-room x d p h = let m : (d + 1) * p ≤ 10 * p = mul-le-mul-right p (omega arith) in omega arith
 
+-- n digits behind those that wrote x write less than (x + 1) times ten to the power n
 value-below : (x : ℕ) (ds : List ℕ) → AllDigits ds → valueFrom x ds < (x + 1) * 10 ^ length ds
 value-below x [] a = omega arith
 value-below x (b ∷ ds) a =
@@ -76,12 +76,13 @@ front-not (b ∷ c ∷ ds) x n h e = omega (arith, n .leading e)
 more-numeral : (ds : List ℕ) (x : ℕ) → 10 ≤ x → Numeral ds (x / 10) → Numeral (ds ++ (48 + x % 10) ∷ []) x
 more-numeral ds x h n =
     let l = length-append ds ((48 + x % 10) ∷ []) in
+    let (a, v) = digit-behind ds (x % 10) (n .digits) (omega arith) in
     let f : getD (ds ++ (48 + x % 10) ∷ []) 0 0 ≡ getD ds 0 0 = List·getD-append ds ((48 + x % 10) ∷ []) 0 0 (n .some) in
     record {
       some = omega arith;
-      digits = digits-append ds ((48 + x % 10) ∷ []) (n .digits) (digit-is (x % 10) (omega arith), tt);
+      digits = a;
       leading = λ e. absurd (front-not ds (x / 10) n (omega arith) (sym f ∙ e));
-      value = omega (arith, value-append 0 ds ((48 + x % 10) ∷ []), n .value);
+      value = omega (arith, v, n .value);
     }
 
 last-of : (b : ℕ) (ds : List ℕ) → (es : List ℕ) × (l : ℕ) × (b ∷ ds ≡ es ++ l ∷ [])

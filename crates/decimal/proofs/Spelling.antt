@@ -10,8 +10,7 @@ use Rattle.decimal.specs.Numeral.{AllDigits, valueOf, Numeral}
 use Rattle.decimal.specs.Decimal.{decimal}
 use Rattle.decimal.proofs.NumeralLaws.{digit-behind, digits-are, decimal-numeral, decimal-length, decimal-below}
 
--- the first i of a are digits that write x but for its last places, as many as are left; `rest` is what stands in those, and from i on a has
--- zeros
+-- the first i of a are digits that write x without its last `left` places; what stands in those is `rest`, and from i on a has zeros
 pub record Spelt (x left : ℕ) (a : List ℕ) (i rest : ℕ) : Type 0 where
   pub long : length a ≡ 20
   pub digits : AllDigits (take i a)

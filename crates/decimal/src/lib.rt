@@ -5,12 +5,12 @@ ghost use Prim.Native.Nat.{_+_, _-_, _/_, _%_, _<_};
 ghost use lib.ListN.{length, take, replicate};
 ghost use Rattle.decimal.specs.Numeral.{Numeral};
 ghost use Rattle.decimal.specs.Decimal.{decimal};
+ghost use Rattle.decimal.specs.Powers.{Powers};
 
 // The most digits of a 64-bit number.
 const MOST_DIGITS: usize = 20;
 
-// The powers of ten that are 64-bit numbers: entry i is ten to the power i. A function copies the table once: the compiler stores it anew
-// wherever the constant is named.
+// The powers of ten that are 64-bit numbers. Nothing reads the first: it is there so that entry i is ten to the power i.
 const POWERS: [u64; MOST_DIGITS] = [
     1,
     10,
@@ -46,11 +46,18 @@ struct Step {
     rest: u64,
 }
 
+// The table. Functions ask for it once, before their loops: the compiler stores it anew wherever the constant is named.
+fn powers_of_ten() -> [u64; MOST_DIGITS]
+    ensures { λ r. ⌜ Powers r ⌝ }
+{
+    POWERS
+}
+
 // How many digits write x: one, and one more for each power from ten on that is not above x.
 pub fn width(x: u64) -> usize
     ensures { λ r. ⌜ r ≡ length (decimal x) ⌝ }
 {
-    let powers = POWERS;
+    let powers = powers_of_ten();
     let mut n: usize = 1;
     while n < MOST_DIGITS && powers[n] <= x {
         n += 1;
@@ -58,7 +65,7 @@ pub fn width(x: u64) -> usize
     n
 }
 
-// The digit of x at a power of ten: how often the power can be subtracted.
+// The first digit of x, which is below ten times the power: how often the power can be subtracted.
 fn digit_step(x: u64, power: u64) -> Step
     requires { ⌜ (0 < power) × (x / power < 10) ⌝ }
     ensures { λ r. ⌜ (r .digit ≡ 48 + x / power) × (r .rest ≡ x % power) ⌝ }
@@ -80,7 +87,7 @@ pub fn digits_of(x: u64) -> Digits
     ensures value { λ r. ⌜ (r .bytes ≡ decimal x ++ replicate (20 - length (decimal x)) 0) × (r .len ≡ length (decimal x)) ⌝ }
     ensures meaning { λ r. ⌜ Numeral (take (r .len) (r .bytes)) x ⌝ }
 {
-    let powers = POWERS;
+    let powers = powers_of_ten();
     let len = width(x);
     let mut digits = Digits {
         bytes: [0u8; MOST_DIGITS],

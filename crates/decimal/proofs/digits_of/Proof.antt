@@ -3,8 +3,8 @@ use borrow.Author.Needs.{needs}
 use mathlib.Core.Path.{_≡_, refl, _∙_}
 use Prim.Native.Nat.{suc, _+_, _-_, _≤_, _<_}
 use native.Mathlib.Omega.{arith}
+use Rattle.decimal.specs.Powers.{Powers}
 use Rattle.decimal.proofs.NumeralLaws.{decimal-some, decimal-length}
-use Rattle.decimal.proofs.Powers.{Powers, table-powers}
 use Rattle.decimal.proofs.Spelling.{Spelt, spelt-begins, spelt-as, spelt-below, spelt-fits, spelt-on, spelt-last, spelt-ends, spelt-numeral}
 use Rattle.decimal.proofs.digits_of.Statement.{statement}
 use Rattle.decimal.proofs.digits_of.Tie as tie
@@ -16,13 +16,14 @@ digits-of-spec =
     Powers powers × (i ≤ last) × (last < 20) × (digits .len ≡ len) × Spelt x (suc (last - i)) (digits .bytes) i rest)
     (λ x powers len digits₀ rest₀ last i₀ digits rest i. last - i)
     (λ c κs. search needs)
-    (λ c. omega (arith, c .width .ensures, decimal-some (c .before .args .x)))
+    (λ c κs. search needs)
+    (λ c. omega (arith, c .width .ensures, decimal-some (c .before .before .args .x)))
     (λ c.
-    let x = c .before .args .x in
+    let x = c .before .before .args .x in
     let w = c .width .ensures in
     let some = decimal-some x in
     let few = decimal-length x in
-    (table-powers refl, omega arith, omega arith, refl, spelt-begins x _ (omega arith) (omega arith)))
+    (c .before .powers-of-ten .ensures, omega arith, omega arith, refl, spelt-begins x _ (omega arith) (omega arith)))
     (λ c. omega arith)
     (λ c. search needs)
     (λ c. omega arith)
@@ -47,7 +48,7 @@ digits-of-spec =
     (λ c.
     let l = c .before .loop in
     let w = c .before .before .width in
-    let some = decimal-some (c .before .before .before .args .x) in
+    let some = decimal-some (c .before .before .before .before .args .x) in
     let s = spelt-last (spelt-as {l = 1} {j = w .result - 1} (l .inv .4) (omega arith) (omega arith)) (l .inv .2) in
     let n : l .digits .len ≡ _ = l .inv .3 ∙ w .ensures in
     let t = spelt-as {j = l .digits .len} s refl (omega arith) in

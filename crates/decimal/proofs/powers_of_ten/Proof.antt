@@ -1,13 +1,12 @@
--- The table of the powers of ten: its rule, from one comparison of the whole table with a computed list. Assumes nothing.
+-- `powers_of_ten`: the whole table is compared with a computed list, whose entries are the powers of ten. Assumes nothing.
 use Prim.Native.Nat.{ℕ, zero, suc, _+_, _^_, _<_}
 use native.Mathlib.Omega.{arith}
-use mathlib.Core.Path.{_≡_, ap, subst⁻¹, _∙_}
+use mathlib.Core.Path.{_≡_, refl, ap, subst⁻¹, _∙_}
 use mathlib.Core.List.{List, [], _∷_}
 use lib.ListN.{getD}
-
--- entry i is ten to the power i
-pub record Powers (ps : List ℕ) : Type 0 where
-  pub entry : (i : ℕ) → i < 20 → getD ps i 0 ≡ 10 ^ i
+use Rattle.decimal.specs.Powers.{Powers}
+use Rattle.decimal.proofs.powers_of_ten.Statement.{statement}
+use Rattle.decimal.proofs.powers_of_ten.Tie as tie
 
 -- k powers of ten, from the exponent e on
 abbrev powersFrom : ℕ → ℕ → List ℕ
@@ -20,8 +19,10 @@ entry-from e (suc k) zero l = let s : e ≡ e + 0 = omega arith in ap (λ (j : �
 entry-from e (suc k) (suc i) l =
     let s : suc e + i ≡ e + suc i = omega arith in entry-from (suc e) k i (omega arith) ∙ ap (λ (j : ℕ). 10 ^ j) s
 
--- the table is compared, by `refl`, where it stands in the code
-pub table-powers : {ps : List ℕ} → ps ≡ powersFrom 0 20 → Powers ps
-table-powers h =
+powers : {ps : List ℕ} → ps ≡ powersFrom 0 20 → Powers ps
+powers h =
     subst⁻¹ Powers h
     (record { entry = λ i l. let s : 0 + i ≡ i = omega arith in entry-from 0 20 i l ∙ ap (λ (j : ℕ). 10 ^ j) s })
+
+pub powers-of-ten-spec : {M : Type 1} → statement M
+powers-of-ten-spec = tie.close (tie.spec (λ c. powers refl))

@@ -1,11 +1,11 @@
--- `print_decimal` is safe and ends: there are as many bytes as digits. Assumes nothing.
+-- `print_decimal` is safe and ends: there are at least as many bytes as digits. Assumes nothing.
 use borrow.Author.Needs.{needs}
 use native.Mathlib.Omega.{arith}
 use mathlib.Core.Path.{sym, ap}
 use lib.ListN.{length, length-append}
 use lib.Seq.{length-take-le}
-use Rattle.case_runner.proofs.numbers.print_decimal.Statement.{statement}
-use Rattle.case_runner.proofs.numbers.print_decimal.Tie as tie
+use Rattle.case_runner.proofs.output.print_decimal.Statement.{statement}
+use Rattle.case_runner.proofs.output.print_decimal.Tie as tie
 
 pub print-decimal-spec : {M : Type 1} → statement M
 print-decimal-spec =
