@@ -65,7 +65,7 @@ pub fn width(x: u64) -> usize
     n
 }
 
-// The first digit of x, which is below ten times the power: how often the power can be subtracted.
+// The digit of x at a power of ten, where x is below ten times the power: how often the power can be subtracted.
 fn digit_step(x: u64, power: u64) -> Step
     requires { ⌜ (0 < power) × (x / power < 10) ⌝ }
     ensures { λ r. ⌜ (r .digit ≡ 48 + x / power) × (r .rest ≡ x % power) ⌝ }
