@@ -1,6 +1,6 @@
 //! The lines that the commands `cases` and `readings` print.
 
-use crate::generate::{alphabet, change_byte, random_byte, sentence, word, Bounds};
+use crate::generate::{alphabet, change_byte, random_byte, sentence, spoil_leaf, word, Bounds};
 use crate::judge::judge;
 use crate::limits::{MAX_NODES, MAX_RULE_BYTES, MAX_SPECIAL, MAX_WORD};
 use crate::random::Random;
@@ -35,7 +35,8 @@ pub fn reading_line(random: &mut Random, most_bytes: usize) -> String {
     format!("{text}\t{verdict}\t{reading}\n")
 }
 
-/// A random text: bytes without a plan, a sentence, or a sentence with a few bytes changed.
+/// A random text: bytes without a plan, a sentence, or a sentence with a few bytes changed or with
+/// a leaf that has become a bad set.
 fn good_or_bad_text(random: &mut Random, most_bytes: usize) -> Vec<u8> {
     if most_bytes == 0 || random.one_in(4) {
         let length = random.below(most_bytes + 1);
@@ -49,6 +50,9 @@ fn good_or_bad_text(random: &mut Random, most_bytes: usize) -> Vec<u8> {
     };
     let letters = alphabet(random);
     let mut text = sentence(random, letters, &bounds);
+    if random.one_in(5) {
+        spoil_leaf(random, &mut text, most_bytes);
+    }
     for _ in 0..random.below(3) {
         let byte = random_byte(random);
         change_byte(random, &mut text, byte, most_bytes);

@@ -1,17 +1,28 @@
 //! Random trees, sentences, words and bytes, for the random cases and the tests.
 
+use std::ops::Range;
+
+use crate::limits::LETTERS;
 use crate::random::Random;
 use crate::rule::Kind;
+use crate::set::Set;
+use crate::shape::Shape;
 
 /// The small alphabets of random cases; with few letters more words obey. In some of them a letter
 /// stands in both cases.
 const ALPHABETS: [&[u8]; 8] = [b"ab", b"abc", b"az", b"bmz", b"aA", b"AB", b"bBZ", b"azAZ"];
 
 /// The bytes of random texts: mostly listed ones, operators more often than their share.
-const LISTED: &[u8] = b"aabzAAZ01||&&!!**(())";
+const LISTED: &[u8] = b"aabzAAZ01||&&!!**(())[[]].";
 
 /// Printable bytes that no rule lists, most of them next to a listed one.
-const FOREIGN: &[u8] = b"@[\\]^_`{/2 ;'+,}~\"%#$.?";
+const FOREIGN: &[u8] = b"@\\^_`{-/2 ;'+,}~\"%#$?";
+
+/// What is no set, and makes no sentence or has a foreign byte where a leaf should stand.
+const NO_SETS: [&[u8]; 20] = [
+    b"[]", b"[", b"]", b"[a", b"a]", b"[Zb", b"[.]", b"[0]", b"[a1]", b"[a|b]", b"[a&b]", b"[!a]",
+    b"[a*]", b"[(a)]", b"[[a]]", b"[a[b]", b"[a-c]", b"[^a]", b"[a b]", b"[a<b]",
+];
 
 /// The most that a random sentence may have.
 pub struct Bounds {
@@ -53,6 +64,70 @@ pub fn change_byte(random: &mut Random, text: &mut Vec<u8>, byte: u8, most_bytes
     }
 }
 
+/// A random set: mostly of a few of the letters, else of all that there are or of any.
+pub fn set(random: &mut Random, letters: &[u8]) -> Set {
+    match random.below(8) {
+        0 | 1 => Set::all(),
+        2 => {
+            let times = random.pick(&[2, 6, 20]);
+            let others = LETTERS.iter().copied().filter(|_| random.one_in(times));
+            let mut members: Vec<u8> = others.collect();
+            members.push(random.pick(letters));
+            Set::of(&members)
+        }
+        _ => few_letters(random, letters),
+    }
+}
+
+/// A random set of one to three of the letters.
+fn few_letters(random: &mut Random, letters: &[u8]) -> Set {
+    let times = 1 + random.below(3);
+    let members: Vec<u8> = (0..times).map(|_| random.pick(letters)).collect();
+    Set::of(&members)
+}
+
+/// Letters in brackets that do not rise: two have changed places, or one comes a second time.
+fn fallen_set(random: &mut Random) -> Vec<u8> {
+    let letters = alphabet(random);
+    let rising = if random.one_in(4) {
+        set(random, letters)
+    } else {
+        few_letters(random, letters)
+    };
+    let mut members: Vec<u8> = rising.letters().collect();
+    let at = random.below(members.len());
+    let later = at + 1 + random.below(members.len() - at);
+    if later < members.len() && random.one_in(2) {
+        members.swap(at, later);
+    } else {
+        members.insert(later, members[at]);
+    }
+    [b"[", &members[..], b"]"].concat()
+}
+
+/// Puts brackets that hold no set, or letters that do not rise, in the place of a leaf, and stays
+/// within so many bytes.
+pub fn spoil_leaf(random: &mut Random, text: &mut Vec<u8>, most_bytes: usize) {
+    let Some(leaf) = random_leaf(random, text) else {
+        return;
+    };
+    let spoilt = if random.one_in(2) {
+        fallen_set(random)
+    } else {
+        random.pick(&NO_SETS).to_vec()
+    };
+    if text.len() - leaf.len() + spoilt.len() <= most_bytes {
+        text.splice(leaf, spoilt);
+    }
+}
+
+/// Where one of a text's leaves stands, if it has any.
+pub fn random_leaf(random: &mut Random, text: &[u8]) -> Option<Range<usize>> {
+    let mut leaves: Vec<Range<usize>> = Shape::of(text).leaves().collect();
+    let some = !leaves.is_empty();
+    some.then(|| leaves.swap_remove(random.below(leaves.len())))
+}
+
 /// A random sentence within the bounds.
 pub fn sentence(random: &mut Random, letters: &[u8], bounds: &Bounds) -> Vec<u8> {
     // A text of b bytes has at most b leaves and b - 1 concatenations.
@@ -68,11 +143,14 @@ pub fn sentence(random: &mut Random, letters: &[u8], bounds: &Bounds) -> Vec<u8>
     }
 }
 
-/// A random tree of so many nodes, each after its sides, with at most so many special ones.
+/// A random tree of so many nodes, each after its sides, with at most so many special ones; some
+/// trees have sets of several letters.
 pub fn grow_tree(random: &mut Random, letters: &[u8], nodes: usize, special: usize) -> Vec<Kind> {
+    let sets = !random.one_in(3);
     let mut grower = Grower {
         random,
         letters,
+        sets,
         special,
         kinds: Vec::new(),
     };
@@ -84,6 +162,8 @@ pub fn grow_tree(random: &mut Random, letters: &[u8], nodes: usize, special: usi
 struct Grower<'a> {
     random: &'a mut Random,
     letters: &'a [u8],
+    /// Whether there are sets of several letters.
+    sets: bool,
     /// How many special nodes may still be added.
     special: usize,
     kinds: Vec<Kind>,
@@ -102,12 +182,13 @@ impl Grower<'_> {
         self.kinds.len() - 1
     }
 
-    /// A node without sides, mostly a letter.
+    /// A node without sides, mostly a letter or a set.
     fn leaf(&mut self) -> Kind {
         match self.random.below(10) {
             0 => Kind::NoWord,
             1 => Kind::EmptyWord,
-            _ => Kind::Letter(self.random.pick(self.letters)),
+            2..=7 if self.sets => Kind::OneOf(set(self.random, self.letters)),
+            _ => Kind::OneOf(Set::of(&[self.random.pick(self.letters)])),
         }
     }
 
@@ -148,9 +229,12 @@ impl Grower<'_> {
 
 /// Writes a tree as a text that reads back to it, with a few parentheses more than it takes.
 pub fn write_tree(random: &mut Random, kinds: &[Kind]) -> Vec<u8> {
+    let has_several =
+        |kind: &Kind| matches!(kind, Kind::OneOf(set) if set.letters().nth(1).is_some());
     let mut writer = Writer {
         random,
         kinds,
+        sets: kinds.iter().any(has_several),
         text: Vec::new(),
     };
     writer.write(kinds.len() - 1, 0);
@@ -161,6 +245,8 @@ pub fn write_tree(random: &mut Random, kinds: &[Kind]) -> Vec<u8> {
 struct Writer<'a> {
     random: &'a mut Random,
     kinds: &'a [Kind],
+    /// Whether there are sets of several letters; then one letter may stand in brackets, too.
+    sets: bool,
     text: Vec<u8>,
 }
 
@@ -176,7 +262,7 @@ impl Writer<'_> {
         match self.kinds[node] {
             Kind::NoWord => self.text.push(b'0'),
             Kind::EmptyWord => self.text.push(b'1'),
-            Kind::Letter(letter) => self.text.push(letter),
+            Kind::OneOf(set) => self.write_set(set),
             // Grouping from the left: a right side must be tighter than its operator.
             Kind::Union(left, right) => self.write_sides((left, 0), b"|", (right, 1)),
             Kind::Intersection(left, right) => self.write_sides((left, 1), b"&", (right, 2)),
@@ -189,6 +275,18 @@ impl Writer<'_> {
                 self.write(inner, 4);
                 self.text.push(b'*');
             }
+        }
+    }
+
+    /// Writes a set: a letter, a dot, or letters in brackets.
+    fn write_set(&mut self, set: Set) {
+        let letters: Vec<u8> = set.letters().collect();
+        if letters.len() == 1 && !(self.sets && self.random.one_in(4)) {
+            self.text.extend(letters);
+        } else if set == Set::all() && !self.random.one_in(16) {
+            self.text.push(b'.');
+        } else {
+            self.text.extend([b"[", &letters[..], b"]"].concat());
         }
     }
 
@@ -208,6 +306,6 @@ fn tightness(kind: Kind) -> usize {
         Kind::Concatenation(..) => 2,
         Kind::Complement(_) => 3,
         Kind::Star(_) => 4,
-        Kind::NoWord | Kind::EmptyWord | Kind::Letter(_) => 5,
+        Kind::NoWord | Kind::EmptyWord | Kind::OneOf(_) => 5,
     }
 }

@@ -6,6 +6,7 @@ use crate::calls::{case, Call};
 use crate::letter_edges::{self, ENDS};
 use crate::limits::LETTERS;
 use crate::rule_edges::{example_1, run, texts_of};
+use crate::set_edges;
 use crate::stream::Case;
 use crate::{rule, table};
 
@@ -202,7 +203,7 @@ const TABLE_CALLS: [(&str, &str); 5] = [
 const NO_EVENTS: [u8; 12] = *b"`{\0\xff[@_1!\n\t\x80";
 
 /// One text for each refusal of a rule text, and more for those that name a place.
-pub const BAD_RULES: [&[u8]; 11] = [
+pub const BAD_RULES: [&[u8]; 12] = [
     b"",
     &[b'a'; 256],
     b"_",
@@ -214,6 +215,7 @@ pub const BAD_RULES: [&[u8]; 11] = [
     b"a()b",
     &[b'a'; 33],
     b"!!!!!!!!a",
+    b"x[ba]",
 ];
 
 /// The signs of the short sentences.
@@ -231,6 +233,7 @@ pub fn cases() -> Vec<Case> {
     cases.extend(around_counts(&STARTS));
     cases.extend(short_sentences());
     cases.extend(about_letters());
+    cases.extend(about_sets());
     cases.extend(about_lengths());
     cases.extend(about_tables());
     cases.extend(about_bytes());
@@ -302,6 +305,15 @@ fn about_letters() -> Vec<Case> {
     let on_alphabet = rules.map(|rule| Call::new(rule, LETTERS));
     let calls = on_itself.into_iter().chain(both_cases).chain(on_alphabet);
     calls.map(|call| call.exact()).collect()
+}
+
+/// Rules with sets, and all letters in brackets on a word of them.
+fn about_sets() -> Vec<Case> {
+    let calls = set_edges::CALLS.map(|(rule, word)| Call::new(rule.as_bytes(), word.as_bytes()));
+    let mut cases: Vec<Case> = calls.iter().map(Call::exact).collect();
+    cases.push(Call::new(b"[NOPQRSTUVWXYZabcdefghijklm]", LETTERS).exact());
+    cases.push(Call::new(b".", LETTERS).one_below());
+    cases
 }
 
 /// Words whose rows end about the edges of their numbers; the long ones have one special node.

@@ -56,6 +56,14 @@ const TRAPS: [(&str, &str); 7] = [
     ("Z", "zZ"),
 ];
 
+/// Sets in brackets and the dot; the first is document 02's own.
+const SETS: [(&str, &str); 4] = [
+    ("[abc]", "adc"),
+    ("[Za]", "aZz"),
+    (".", "aZ"),
+    ("!.*[bc]", "abac"),
+];
+
 /// Numbers to print: the first ones, some where a digit is added, and the last ones of 64 bits.
 const NUMBERS: [(u64, usize); 5] = [
     (0, 12),
@@ -78,6 +86,8 @@ pub fn cases() -> Vec<Case> {
     cases.extend(about_bytes());
     cases.extend(about_bad_rules());
     cases.extend(passing(&TRAPS));
+    cases.extend(passing(&SETS));
+    cases.extend(about_bad_sets());
     cases.extend(NUMBERS.map(|(first, count)| Case::Numbers { first, count }));
     cases
 }
@@ -142,6 +152,12 @@ fn about_tables() -> [Case; 4] {
 fn about_bytes() -> [Case; 3] {
     let words = [b"_ba", b"ab_", b"a{_"];
     words.map(|word| case(table::need(0, word.len()), u64::MAX, b"a", word))
+}
+
+/// Letters in brackets that do not rise, and brackets that make no sentence.
+fn about_bad_sets() -> [Case; 4] {
+    let rules = [&b"[ba]"[..], b"[aa]", b"[]", b"[ba]|"];
+    rules.map(|rule| case(0, 0, rule, b""))
 }
 
 /// A rule text for each of 1 to 6, with a word and a table that would be refused too.

@@ -47,7 +47,7 @@ fn spans_of_node(kind: Kind, sides: &[Spans], word: &[u8]) -> Spans {
     match kind {
         Kind::NoWord => Spans::that(n, |_, _| false),
         Kind::EmptyWord => Spans::that(n, |i, j| i == j),
-        Kind::Letter(letter) => Spans::that(n, |i, j| word[i..j] == [letter]),
+        Kind::OneOf(set) => Spans::that(n, |i, j| matches!(word[i..j], [event] if set.has(event))),
         Kind::Union(left, right) => Spans::that(n, |i, j| {
             sides[left].obeys(i, j) || sides[right].obeys(i, j)
         }),

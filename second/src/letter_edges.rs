@@ -38,7 +38,7 @@ pub fn days(byte: u8) -> [Vec<u8>; 3] {
 }
 
 /// A text with the byte where it has a blank.
-fn filled(text: &str, byte: u8) -> Vec<u8> {
+pub fn filled(text: &str, byte: u8) -> Vec<u8> {
     let with_byte = |other: u8| if other == BLANK { byte } else { other };
     text.bytes().map(with_byte).collect()
 }

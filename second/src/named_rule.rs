@@ -1,4 +1,5 @@
-//! A rule with names, as a line of a rule file has it: refusals 1 to 6 and 17, and its reading.
+//! A rule with names, as a line of a rule file has it: refusals 1 to 6, 17 and 20, and its
+//! reading.
 //!
 //! The text after replacement is really made, and then read like any other sentence.
 
@@ -6,6 +7,7 @@ use crate::limits::{MAX_NODES, MAX_RULE_BYTES};
 use crate::refusal::Reason;
 use crate::rule::{check_sentence, is_listed, read_sentence, Rule};
 use crate::rule_file::{is_name, Line};
+use crate::shape::first_fallen;
 
 /// What stands for any name while only the form of a rule is checked.
 const ANY_OPERAND: u8 = b'1';
@@ -30,6 +32,11 @@ pub fn read(written: &[u8], earlier: &[Line]) -> Result<(Vec<u8>, Rule), Reason>
     }
     let parts = parts(written).ok_or(Reason::NotASentence)?;
     check_form(&parts)?;
+    check_names(&parts, earlier)?;
+    // Brackets hold no names, so they are judged as they are written.
+    if first_fallen(written).is_some() {
+        return Err(Reason::LetterNotAbove);
+    }
     let text = replaced(&parts, earlier)?;
     let rule = read_sentence(&text)?;
     Ok((text, rule))
@@ -62,12 +69,26 @@ pub fn parts(written: &[u8]) -> Option<Vec<Part<'_>>> {
 
 /// Checks that a rule would be a sentence if every name were some operand.
 fn check_form(parts: &[Part]) -> Result<(), Reason> {
-    let form = |part: &Part| match *part {
+    check_sentence(&form(parts)).map_err(|_| Reason::NotASentence)
+}
+
+/// A rule with some operand for every name.
+pub fn form(parts: &[Part]) -> Vec<u8> {
+    let byte = |part: &Part| match *part {
         Part::Sign(byte) => byte,
         Part::Name(_) => ANY_OPERAND,
     };
-    let form: Vec<u8> = parts.iter().map(form).collect();
-    check_sentence(&form).map_err(|_| Reason::NotASentence)
+    parts.iter().map(byte).collect()
+}
+
+/// Checks that an earlier line has each name.
+fn check_names(parts: &[Part], earlier: &[Line]) -> Result<(), Reason> {
+    let is_known = |part: &Part| match *part {
+        Part::Sign(_) => true,
+        Part::Name(name) => find(name, earlier).is_some(),
+    };
+    let all_known = parts.iter().all(is_known);
+    all_known.then_some(()).ok_or(Reason::UnknownName)
 }
 
 /// The text in which each name has become its line's text after replacement, in parentheses.
@@ -78,20 +99,17 @@ fn replaced(parts: &[Part], earlier: &[Line]) -> Result<Vec<u8>, Reason> {
         match *part {
             Part::Sign(byte) => text.push(byte),
             Part::Name(name) => {
-                let line = find(name, earlier).ok_or(Reason::UnknownName)?;
+                let line = find(name, earlier).expect("each name is checked before");
                 nodes_put_in += line.rule.m();
-                // With so many nodes it is refused, so its ten million bytes are not wanted; but a
-                // later name may be unknown, which comes first.
-                if nodes_put_in <= MAX_NODES {
-                    text.push(b'(');
-                    text.extend_from_slice(&line.text);
-                    text.push(b')');
+                if nodes_put_in > MAX_NODES {
+                    // Refused anyway, so its ten million bytes are not wanted.
+                    return Err(Reason::TooManyNodes);
                 }
+                text.push(b'(');
+                text.extend_from_slice(&line.text);
+                text.push(b')');
             }
         }
-    }
-    if nodes_put_in > MAX_NODES {
-        return Err(Reason::TooManyNodes);
     }
     Ok(text)
 }

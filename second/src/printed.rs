@@ -47,16 +47,18 @@ fn records(rule: &Rule) -> String {
     list(rule.nodes.iter().map(record), ";")
 }
 
-/// The sign of a kind; a dot stands for concatenation, which has none of its own.
-fn kind_sign(kind: Kind) -> char {
-    match kind {
-        Kind::NoWord => '0',
-        Kind::EmptyWord => '1',
-        Kind::Letter(letter) => char::from(letter),
-        Kind::Union(..) => '|',
-        Kind::Intersection(..) => '&',
-        Kind::Concatenation(..) => '.',
-        Kind::Complement(_) => '!',
-        Kind::Star(_) => '*',
-    }
+/// The sign of a kind; a set has its letters in byte order, and a dot stands for concatenation,
+/// which has no sign of its own.
+fn kind_sign(kind: Kind) -> String {
+    let sign = match kind {
+        Kind::NoWord => "0",
+        Kind::EmptyWord => "1",
+        Kind::OneOf(set) => return set.to_string(),
+        Kind::Union(..) => "|",
+        Kind::Intersection(..) => "&",
+        Kind::Concatenation(..) => ".",
+        Kind::Complement(_) => "!",
+        Kind::Star(_) => "*",
+    };
+    sign.to_string()
 }

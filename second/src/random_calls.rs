@@ -137,8 +137,9 @@ pub fn word_of(random: &mut Random, rule: &[u8], n: usize) -> Vec<u8> {
         .copied()
         .filter(|&byte| is_event(byte))
         .collect();
-    if letters.is_empty() {
-        letters.push(b'a');
+    // A dot fits letters that the rule does not have.
+    if letters.is_empty() || rule.contains(&b'.') {
+        letters.push(random.pick(b"abAZ"));
     }
     let times = random.pick(&[10, 100, 1_000]);
     let event = |_| {

@@ -1,19 +1,26 @@
 //! Random rule texts for the command `draw`: sentences of all sizes, and what is near to them.
 
-use crate::generate::{any_byte, change_byte, grow_tree, random_byte, write_tree};
+use std::ops::Range;
+
+use crate::generate::{any_byte, change_byte, grow_tree, random_byte};
+use crate::generate::{random_leaf, spoil_leaf, write_tree};
 use crate::limits::{LETTERS, MAX_NODES, MAX_RULE_BYTES, MAX_SPECIAL};
 use crate::random::Random;
-use crate::rule::is_leaf;
 
 /// Lengths of texts without a plan: the shortest, and those about the longest.
 const LENGTHS: [usize; 9] = [0, 1, 2, 3, 254, 255, 256, 257, 300];
 
 /// A random text, a sentence more often than not.
 pub fn text(random: &mut Random) -> Vec<u8> {
-    match random.below(9) {
+    match random.below(10) {
         0 => without_plan(random, random_byte),
         1 => without_plan(random, any_byte),
         2 | 3 => changed_sentence(random),
+        4 => {
+            let mut text = any_sentence(random);
+            spoil_leaf(random, &mut text, MAX_RULE_BYTES + 2);
+            text
+        }
         _ => any_sentence(random),
     }
 }
@@ -78,12 +85,12 @@ fn tree_of_at_most(random: &mut Random, nodes: usize) -> Vec<u8> {
 /// A small sentence with a long run at a leaf: of `!`, of `*` or of parentheses.
 fn sentence_with_run(random: &mut Random) -> Vec<u8> {
     let mut text = tree_of_at_most(random, 8);
-    let leaf = leaf_offset(random, &text);
+    let leaf = sentence_leaf(random, &text);
     let longest = random.pick(&[10, 66, MAX_RULE_BYTES]);
     let run = 1 + random.below(longest);
     match random.below(3) {
-        0 => insert_run(&mut text, leaf, b'!', run),
-        1 => insert_run(&mut text, leaf + 1, b'*', run),
+        0 => insert_run(&mut text, leaf.start, b'!', run),
+        1 => insert_run(&mut text, leaf.end, b'*', run),
         _ => enclose(&mut text, leaf, run.div_ceil(2)),
     }
     text
@@ -94,23 +101,21 @@ fn sentence_of_many_bytes(random: &mut Random) -> Vec<u8> {
     let mut text = tree_of_at_most(random, MAX_NODES);
     let length = MAX_RULE_BYTES - 3 + random.below(5);
     while text.len() < length {
-        let leaf = leaf_offset(random, &text);
+        let leaf = sentence_leaf(random, &text);
         enclose(&mut text, leaf, 1);
     }
     text
 }
 
 /// Where one of a sentence's leaves stands.
-fn leaf_offset(random: &mut Random, text: &[u8]) -> usize {
-    let is_at_leaf = |&at: &usize| is_leaf(text[at]);
-    let leaves: Vec<usize> = (0..text.len()).filter(is_at_leaf).collect();
-    random.pick(&leaves)
+fn sentence_leaf(random: &mut Random, text: &[u8]) -> Range<usize> {
+    random_leaf(random, text).expect("a sentence has a leaf")
 }
 
 /// Puts so many parentheses around a leaf.
-fn enclose(text: &mut Vec<u8>, leaf: usize, depth: usize) {
-    insert_run(text, leaf + 1, b')', depth);
-    insert_run(text, leaf, b'(', depth);
+fn enclose(text: &mut Vec<u8>, leaf: Range<usize>, depth: usize) {
+    insert_run(text, leaf.end, b')', depth);
+    insert_run(text, leaf.start, b'(', depth);
 }
 
 /// Puts a sign in, so many times over.

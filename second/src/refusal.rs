@@ -23,6 +23,8 @@ pub enum Reason {
     UnknownName = 17,
     NameTaken = 18,
     TooManyRuleLines = 19,
+    /// Of a letter in brackets and the one before it.
+    LetterNotAbove = 20,
 }
 
 /// A reason with the place it names.

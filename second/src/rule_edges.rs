@@ -1,6 +1,6 @@
-//! The rule texts that walk document 01's edges.
+//! The rule texts that walk document 01's edges and those of sets.
 
-use crate::letter_edges;
+use crate::{letter_edges, set_edges};
 
 /// What document 01 writes down itself: C1 to C12, its Edges, and the rules in its prose.
 const NAMED: [&str; 22] = [
@@ -156,7 +156,7 @@ const FOREIGN: [&[u8]; 20] = [
     b"a||b/c",
     b"**a*)~",
     b"(a|\x7f",
-    b")a)[)@",
+    b")a)^)@",
     b"!!!!!!!!_",
 ];
 
@@ -180,6 +180,7 @@ pub fn texts() -> Vec<Vec<u8>> {
     texts.extend(about_order());
     texts.extend(about_places());
     texts.extend(about_length());
+    texts.extend(set_edges::texts());
     texts
 }
 

@@ -1,10 +1,11 @@
-//! The rule files that walk the edges of document 02 b), and of how its issue reads it.
+//! The rule files that walk the edges of document 02 b) and e), and of how their issues read them.
 
 use crate::limits::MAX_RULE_LINES;
 use crate::refusal::Reason;
 use crate::rule_edges::run;
 use crate::rule_file_chains::{growing, letter_at, longest, special_at_long_offsets};
 use crate::rule_file_lines::{faulty_lines, good_line, good_lines, line, LINE_REASONS};
+use crate::set_edges;
 
 /// What the issue writes down itself.
 const NAMED: [&[u8]; 5] = [
@@ -16,14 +17,16 @@ const NAMED: [&[u8]; 5] = [
 ];
 
 /// Rules to be put in, of every kind of head.
-const INNER: [&str; 12] = [
-    "a", "0", "1", "A", "a|b", "a&b", "ab", "!a", "a*", "(a)", "((a|b))", "a|b&cd*",
+const INNER: [&str; 15] = [
+    "a", "0", "1", "A", "a|b", "a&b", "ab", "!a", "a*", "(a)", "((a|b))", "a|b&cd*", "[ab]", ".",
+    "[b][Aa]",
 ];
 
 /// Rules around a name, which is written as a question mark.
-const AROUND: [&str; 24] = [
+const AROUND: [&str; 27] = [
     "?", "(?)", "?*", "!?", "!?*", "?a", "a?", "a?b", "?|a", "a|?", "?&a", "a&?", "??", "???",
     "?|?", "?&?", "(?)(?)", "!?!?", "?*?*", "(?|a)?", "a(?)b", "?(a?)", "!(?)&?|?", "((?))*?",
+    "[ab]?", "?[ab]", ".?|?.",
 ];
 
 /// Names that are easily taken for each other, with rules by which they are told apart.
@@ -265,5 +268,6 @@ pub fn files_with_byte(byte: u8) -> Vec<Vec<u8>> {
     };
     let mut files: Vec<Vec<u8>> = BYTE_PLACES.map(filled).into();
     files.push([&good_lines(MAX_RULE_LINES)[..], &[byte]].concat());
+    files.extend(set_edges::with_byte(byte).map(|rule| line("x", rule)));
     files
 }

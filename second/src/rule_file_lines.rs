@@ -4,7 +4,7 @@ use crate::refusal::Reason;
 use crate::rule_edges::run;
 
 /// The refusals that a line can give, in the order in which they are looked for.
-pub const LINE_REASONS: [Reason; 9] = [
+pub const LINE_REASONS: [Reason; 10] = [
     Reason::RuleLineForm,
     Reason::NameTaken,
     Reason::RuleEmpty,
@@ -12,6 +12,7 @@ pub const LINE_REASONS: [Reason; 9] = [
     Reason::RuleByte,
     Reason::NotASentence,
     Reason::UnknownName,
+    Reason::LetterNotAbove,
     Reason::TooManyNodes,
     Reason::TooManySpecialNodes,
 ];
@@ -67,13 +68,14 @@ const OTHER_FORMS: [&[u8]; 40] = [
 ];
 
 /// Rules with a byte that may not stand in them; where they fail before it, 3 still comes first.
-const FOREIGN: [&[u8]; 18] = [
+const FOREIGN: [&[u8]; 23] = [
     b"_", b"a\tb", b"\t", b"\ta", b"a\t", b"a\0", b"\0", b"a b", b"a\r", b"\xff", b"a2", b"<a2>",
-    b"<a_>", b"<a\0>", b"<la\t>", b"<zz>_", b")_", b"><[",
+    b"<a_>", b"<a\0>", b"<la\t>", b"<zz>_", b")_", b"><^", b"[a-c]", b"[^a]", b"[ba]_", b"[<la>-]",
+    b"[a\t]",
 ];
 
 /// Rules that are no sentences, whatever their names stand for; `la` and `me` may stand for a rule.
-const NO_SENTENCES: [&str; 40] = [
+const NO_SENTENCES: [&str; 64] = [
     ")",
     "a|",
     "()",
@@ -114,10 +116,34 @@ const NO_SENTENCES: [&str; 40] = [
     "<zz>|",
     "<zz",
     "<zz>)",
+    "[",
+    "]",
+    "[]",
+    "[a",
+    "a]",
+    "[.]",
+    "[0]",
+    "[a|b]",
+    "[[a]]",
+    "[<la>]",
+    "[a<la>]",
+    "[<zz>]",
+    "[<la>",
+    "<la>]",
+    "<[la]>",
+    "<la]>",
+    "<l[a>]",
+    "[la>]",
+    "[<la]>",
+    "[ba]|",
+    "[ba]<",
+    "[ba",
+    "[aa]<zz>)",
+    "[ba]<zz>[]",
 ];
 
 /// Rules with a name that no earlier line has; the last ones are next to the name `la`.
-const UNKNOWN: [&str; 12] = [
+const UNKNOWN: [&str; 17] = [
     "<me>",
     "<zz>",
     "a<zz>b",
@@ -130,7 +156,28 @@ const UNKNOWN: [&str; 12] = [
     "<laa>",
     "<a>",
     "<al>",
+    "[ab]<zz>",
+    ".<zz>",
+    "[ba]<zz>",
+    "<zz>[ba]",
+    "<zz>|[aa]",
 ];
+
+/// Rules with letters in brackets that do not rise.
+const FALLEN: [&str; 9] = [
+    "[ba]",
+    "[aa]",
+    "[aZ]",
+    "[abb]",
+    "x[ab][ba]",
+    "[ba][ab]",
+    "([ba])*|.",
+    "![cba]",
+    "la[la]",
+];
+
+/// Such rules with the name of an earlier line, which has several nodes.
+const FALLEN_BY_NAMES: [&str; 3] = ["<la>[ba]", "[aa]<la>", "([ba]|<la>)*"];
 
 /// A line of the form.
 pub fn line(name: &str, rule: impl AsRef<[u8]>) -> Vec<u8> {
@@ -181,13 +228,17 @@ pub fn faulty_lines(reason: Reason, good: usize) -> Vec<Vec<u8>> {
     }
 }
 
-/// A rule that is refused for a reason after `la`, whose rule has three nodes; with 16 such names
+/// Rules that are refused for a reason after `la`, whose rule has three nodes; with 16 such names
 /// there would be 63 nodes.
-fn faulty_by_names(reason: Reason) -> Option<Vec<u8>> {
+fn faulty_by_names(reason: Reason) -> Vec<Vec<u8>> {
     match reason {
-        Reason::TooManyNodes => Some(run("<la>", 17)),
-        Reason::TooManySpecialNodes => Some(run("!<la>", 8)),
-        _ => None,
+        Reason::LetterNotAbove => {
+            let crowded = [run("<la>", 40), run("[ba]", 1)].concat();
+            [FALLEN_BY_NAMES.map(Vec::from).to_vec(), vec![crowded]].concat()
+        }
+        Reason::TooManyNodes => vec![run("<la>", 17)],
+        Reason::TooManySpecialNodes => vec![run("!<la>", 8)],
+        _ => Vec::new(),
     }
 }
 
@@ -209,14 +260,20 @@ fn faulty_rules(reason: Reason) -> Vec<Vec<u8>> {
         Reason::RuleByte => [FOREIGN.map(<[u8]>::to_vec).to_vec(), crowded("_")].concat(),
         Reason::NotASentence => [NO_SENTENCES.map(Vec::from).to_vec(), crowded("|")].concat(),
         Reason::UnknownName => [UNKNOWN.map(Vec::from).to_vec(), crowded("<zz>")].concat(),
+        Reason::LetterNotAbove => {
+            let crowded = [run("a", 33), run("!", 8)].map(|text| [text, run("[ba]", 1)].concat());
+            [FALLEN.map(Vec::from).to_vec(), crowded.to_vec()].concat()
+        }
         Reason::TooManyNodes => vec![
             run("a", 33),
+            run("[ab]", 33),
             [run("a", 1), run("*", 64)].concat(),
             [run("!", 64), run("a", 1)].concat(),
             run("a", 255),
         ],
         _ => vec![
             [run("!", 8), run("a", 1)].concat(),
+            [run("!", 8), run("[ab]", 1)].concat(),
             [run("a&", 8), run("a", 1)].concat(),
             run("!a", 8),
         ],

@@ -5,6 +5,7 @@
 
 use crate::language::Spans;
 use crate::rule::{Kind, Rule};
+use crate::set::Set;
 
 /// For whom is searched: the whole rule, or a special node given by its index.
 #[derive(Clone, Copy, Debug, PartialEq, Eq)]
@@ -46,8 +47,8 @@ pub struct Position {
 enum Move {
     /// To a state, without an event.
     Free(State),
-    /// To a state, if the next event is the letter.
-    Event(u8, State),
+    /// To a state, if the next event is one of the letters.
+    Event(Set, State),
     /// To the exit of the special node, over each span that obeys it.
     Span(usize),
 }
@@ -125,8 +126,8 @@ impl<'a> Automaton<'a> {
     fn follow(&self, way: Move, number: usize, search: &mut Search) {
         match way {
             Move::Free(state) => search.add(Position { state, number }),
-            Move::Event(letter, state) => {
-                if self.word.get(number) == Some(&letter) {
+            Move::Event(set, state) => {
+                if self.word.get(number).is_some_and(|&event| set.has(event)) {
                     search.add(Position {
                         state,
                         number: number + 1,
@@ -208,7 +209,7 @@ fn moves_of_node(node: usize, kind: Kind) -> Vec<(State, Move)> {
     match kind {
         Kind::NoWord => vec![],
         Kind::EmptyWord => vec![free(entry(node), exit(node))],
-        Kind::Letter(letter) => vec![(entry(node), Move::Event(letter, exit(node)))],
+        Kind::OneOf(set) => vec![(entry(node), Move::Event(set, exit(node)))],
         Kind::Union(left, right) => vec![
             free(entry(node), entry(left)),
             free(entry(node), entry(right)),

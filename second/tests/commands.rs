@@ -48,7 +48,7 @@ fn cases_hold_sentences_words_and_results() {
         assert_eq!(spans, &expected);
     }
     let all: String = lines.iter().map(|line| line[0].as_str()).collect();
-    for sign in "abzABZ01|&!*()".chars() {
+    for sign in "abzABZ01|&!*()[].".chars() {
         assert!(all.contains(sign), "no {sign} in any case");
     }
 }
@@ -65,11 +65,45 @@ fn cases_keep_to_the_largest_sizes() {
     assert_eq!((line[0].len(), line[1].len()), (1, 0));
 }
 
+/// An accepted text without the letters in its brackets, and without what closes them.
+fn outside_brackets(text: &str) -> String {
+    let mut parts = text.split('[');
+    let first = parts.next().unwrap();
+    let after = parts.map(|part| part.split_once(']').unwrap().1);
+    let all: Vec<&str> = std::iter::once(first).chain(after).collect();
+    all.join("[")
+}
+
+#[test]
+fn about_a_third_of_the_cases_and_readings_have_sets() {
+    for arguments in [
+        "cases 5 2000 12 4",
+        "cases 5 2000 30 6",
+        "readings 5 2000 20",
+    ] {
+        let lines = fields(arguments);
+        let has_set = |line: &&Vec<String>| line[0].contains(['[', '.']);
+        let share = 100 * lines.iter().filter(has_set).count() / lines.len();
+        assert!((25..=65).contains(&share), "{arguments}: {share}");
+    }
+    let lines = fields("readings 5 2000 20");
+    let fallen = lines.iter().filter(|line| line[1] == "20").count();
+    assert!(fallen >= 20, "{fallen}");
+    // The place of 4 is in brackets that are still open.
+    let is_broken = |line: &&Vec<String>| {
+        let place: usize = line[2].parse().unwrap();
+        let beginning = line[0][..place].trim_end_matches(|sign: char| sign.is_ascii_alphabetic());
+        line[1] == "4" && beginning.ends_with('[')
+    };
+    let broken = lines.iter().filter(is_broken).count();
+    assert!(broken >= 50, "{broken}");
+}
+
 #[test]
 fn readings_hold_texts_good_and_bad() {
     let lines = fields("readings 7 3000 300");
     assert_eq!(lines.len(), 3000);
-    let mut numbers = [0; 7];
+    let mut numbers = [0; 21];
     for line in &lines {
         let [text, number, place, m, k, records] = &line[..] else {
             panic!("{line:?}")
@@ -84,18 +118,18 @@ fn readings_hold_texts_good_and_bad() {
                 .split(';')
                 .filter(|record| !record.ends_with('.'))
                 .count();
-            let leaves = text
-                .bytes()
-                .filter(|byte| byte.is_ascii_alphanumeric())
-                .count();
-            let operators = text.bytes().filter(|byte| b"|&!*".contains(byte)).count();
-            assert_eq!(signs, leaves + operators);
+            let is_sign = |byte: &u8| byte.is_ascii_alphanumeric() || b"|&!*.[".contains(byte);
+            let outside = outside_brackets(text);
+            assert_eq!(signs, outside.bytes().filter(is_sign).count());
             assert_eq!(records.split(';').count().to_string(), *m);
         } else {
             assert_eq!((m.as_str(), k.as_str(), records.as_str()), ("0", "0", "-"));
         }
     }
-    assert!(numbers.iter().all(|&times| times > 0), "{numbers:?}");
+    for (number, &times) in numbers.iter().enumerate() {
+        let can_come = number <= 6 || number == 20;
+        assert_eq!(times > 0, can_come, "{numbers:?}");
+    }
 }
 
 #[test]
@@ -111,6 +145,12 @@ fn readings_print_the_records_as_offset_and_kind() {
         .find(|line| line[0] == "aa")
         .expect("a seed that gives aa");
     assert_eq!(line[1..], ["0", "0", "3", "0", "0:a;1:a;1:."]);
+    let all: String = ('A'..='Z').chain('a'..='z').collect();
+    for (text, records) in [("[ab]", "0:ab"), ("[a]", "0:a"), (".", &format!("0:{all}"))] {
+        let line = lines.iter().find(|line| line[0] == text);
+        let line = line.unwrap_or_else(|| panic!("a seed that gives {text}"));
+        assert_eq!(line[1..], ["0", "0", "1", "0", records]);
+    }
 }
 
 #[test]

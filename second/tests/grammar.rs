@@ -4,12 +4,15 @@
 
 use std::collections::HashSet;
 
-use second::generate::{sentence, Bounds};
+use second::generate::{sentence, spoil_leaf, Bounds};
 use second::random::Random;
-use second::rule::read;
+use second::rule::{is_listed, read};
 
-/// One byte for each that the grammar tells apart.
+/// One byte for each that the grammar tells apart, but for sets.
 const SIGNS: &[u8] = b"a|&!*()";
+
+/// What stands in sets, and a few signs to stand beside them.
+const SET_SIGNS: &[u8] = b"[]ab.|*";
 
 /// Whether each part of a text, from i up to j, is a sentence.
 struct Chart<'a> {
@@ -35,14 +38,16 @@ impl<'a> Chart<'a> {
     /// Whether some rule of formation gives the part, from shorter parts.
     fn derives(&self, i: usize, j: usize) -> bool {
         let (text, is) = (self.text, &self.sentence);
-        let leaf = j - i == 1 && matches!(text[i], b'A'..=b'Z' | b'a'..=b'z' | b'0' | b'1');
+        let leaf = j - i == 1 && (is_letter(&text[i]) || b"01.".contains(&text[i]));
+        let letters = j - i > 2 && text[i + 1..j - 1].iter().all(is_letter);
+        let set = text[i] == b'[' && text[j - 1] == b']' && letters;
         let complement = text[i] == b'!' && is[i + 1][j];
         let star = text[j - 1] == b'*' && is[i][j - 1];
         let inner = j - i > 2 && is[i + 1][j - 1];
         let parentheses = text[i] == b'(' && text[j - 1] == b')' && inner;
         let sign = |s: usize| matches!(text[s], b'|' | b'&');
         let two_sides = (i + 1..j).any(|s| is[i][s] && (is[s][j] || sign(s) && is[s + 1][j]));
-        leaf || complement || star || parentheses || two_sides
+        leaf || set || complement || star || parentheses || two_sides
     }
 
     /// Whether some sentence of any length begins with the first so many bytes.
@@ -56,7 +61,8 @@ impl<'a> Chart<'a> {
             let prefixed = matches!(text[i], b'!' | b'(') && begins[i + 1];
             let second_side =
                 (i + 1..length).any(|s| is[i][s] && (begins[s] || sign(s) && begins[s + 1]));
-            begins[i] = is[i][length] || prefixed || second_side;
+            let open_set = text[i] == b'[' && text[i + 1..length].iter().all(is_letter);
+            begins[i] = is[i][length] || prefixed || second_side || open_set;
         }
         begins[0]
     }
@@ -65,7 +71,7 @@ impl<'a> Chart<'a> {
     fn verdict(&self) -> (u32, usize) {
         let n = self.text.len();
         if self.sentence[0][n] {
-            return (0, 0);
+            return fallen(self.text).map_or((0, 0), |place| (20, place));
         }
         let longest = (0..=n).rev().find(|&length| self.begins_sentence(length));
         (
@@ -75,26 +81,50 @@ impl<'a> Chart<'a> {
     }
 }
 
+/// Whether a byte is a letter.
+fn is_letter(byte: &u8) -> bool {
+    byte.is_ascii_alphabetic()
+}
+
+/// The first letter in the brackets of a sentence that is not above the one before it.
+fn fallen(text: &[u8]) -> Option<usize> {
+    let mut before = None;
+    for (at, &byte) in text.iter().enumerate() {
+        match byte {
+            b'[' => before = Some(0),
+            b']' => before = None,
+            _ if before.is_some_and(|before| byte <= before) => return Some(at),
+            _ => before = before.map(|_| byte),
+        }
+    }
+    None
+}
+
 /// Number and place of the reader's answer.
 fn answer(text: &[u8]) -> (u32, usize) {
     read(text).map_or_else(|refusal| (refusal.number(), refusal.place), |_| (0, 0))
 }
 
 /// Calls for every text of exactly so many of the signs.
-fn for_each_text(length: usize, mut call: impl FnMut(&[u8])) {
-    let total = SIGNS.len().pow(length as u32);
+fn for_each_text(signs: &[u8], length: usize, mut call: impl FnMut(&[u8])) {
+    let total = signs.len().pow(length as u32);
     let mut text = vec![0; length];
     for mut rank in 0..total {
         for byte in &mut text {
-            *byte = SIGNS[rank % SIGNS.len()];
-            rank /= SIGNS.len();
+            *byte = signs[rank % signs.len()];
+            rank /= signs.len();
         }
         call(&text);
     }
 }
 
 /// How many trees the order of tightness gives for texts of each length, over the signs.
-fn trees_by_length(longest: usize) -> Vec<usize> {
+fn trees_by_length(signs: &[u8], longest: usize) -> Vec<usize> {
+    let times = |sign: u8| usize::from(signs.contains(&sign));
+    let letters = signs.iter().filter(|byte| is_letter(byte)).count();
+    let leaves = letters + times(b'.');
+    // Any letters will do in brackets.
+    let sets = |bytes: usize| times(b'[') * letters.pow(bytes as u32 - 2);
     let none = vec![0; longest + 1];
     let (mut leaf, mut star, mut complement) = (none.clone(), none.clone(), none.clone());
     let (mut joined, mut intersection, mut union) = (none.clone(), none.clone(), none);
@@ -104,11 +134,15 @@ fn trees_by_length(longest: usize) -> Vec<usize> {
             .sum()
     };
     for n in 1..=longest {
-        leaf[n] = if n == 1 { 1 } else { union[n - 2] };
+        leaf[n] = match n {
+            1 => leaves,
+            2 => 0,
+            _ => sets(n) + times(b'(') * union[n - 2],
+        };
         star[n] = leaf[n] + star[n - 1];
-        complement[n] = star[n] + complement[n - 1];
+        complement[n] = star[n] + times(b'!') * complement[n - 1];
         joined[n] = complement[n] + pairs(&joined, &complement, n);
-        intersection[n] = joined[n] + pairs(&intersection, &joined, n - 1);
+        intersection[n] = joined[n] + times(b'&') * pairs(&intersection, &joined, n - 1);
         union[n] = intersection[n] + pairs(&union, &intersection, n - 1);
     }
     union
@@ -116,16 +150,18 @@ fn trees_by_length(longest: usize) -> Vec<usize> {
 
 #[test]
 fn every_short_text_is_judged_as_the_grammar_says() {
-    let trees = trees_by_length(7);
-    for (length, &trees) in trees.iter().enumerate().skip(1) {
-        let mut sentences = 0;
-        for_each_text(length, |text| {
-            let expected = Chart::new(text).verdict();
-            sentences += usize::from(expected == (0, 0));
-            assert_eq!(answer(text), expected, "{}", text.escape_ascii());
-        });
-        // Each sentence has one reading, so there are as many sentences as trees.
-        assert_eq!(sentences, trees, "of {length} bytes");
+    for (signs, longest) in [(SIGNS, 7), (SET_SIGNS, 6)] {
+        let trees = trees_by_length(signs, longest);
+        for (length, &trees) in trees.iter().enumerate().skip(1) {
+            let mut sentences = 0;
+            for_each_text(signs, length, |text| {
+                let expected = Chart::new(text).verdict();
+                sentences += usize::from(expected.0 != 4);
+                assert_eq!(answer(text), expected, "{}", text.escape_ascii());
+            });
+            // Each sentence has one reading, so there are as many sentences as trees.
+            assert_eq!(sentences, trees, "of {length} bytes");
+        }
     }
 }
 
@@ -133,20 +169,23 @@ fn every_short_text_is_judged_as_the_grammar_says() {
 fn the_grammar_of_beginnings_is_what_completions_give() {
     // A beginning of b bytes leaves at most b parentheses open. So if it can be completed at all,
     // b + 1 bytes do: a letter where one is due, and the closing parentheses. Hence
-    // the sentences of up to 7 bytes have every possible beginning of up to 3 bytes.
-    let mut beginnings: HashSet<Vec<u8>> = HashSet::new();
-    for length in 1..=7 {
-        for_each_text(length, |text| {
-            if Chart::new(text).sentence[0][length] {
-                beginnings.extend((0..=length.min(3)).map(|b| text[..b].to_vec()));
-            }
-        });
-    }
-    for length in 0..=3 {
-        for_each_text(length, |text| {
-            let begins = Chart::new(text).begins_sentence(length);
-            assert_eq!(begins, beginnings.contains(text), "{}", text.escape_ascii());
-        });
+    // the sentences of up to 7 bytes have every possible beginning of up to 3 bytes. Open brackets
+    // take a letter, perhaps, and one byte to close them.
+    for (signs, longest, most) in [(SIGNS, 7, 3), (SET_SIGNS, 6, 4)] {
+        let mut beginnings: HashSet<Vec<u8>> = HashSet::new();
+        for length in 1..=longest {
+            for_each_text(signs, length, |text| {
+                if Chart::new(text).sentence[0][length] {
+                    beginnings.extend((0..=length.min(most)).map(|b| text[..b].to_vec()));
+                }
+            });
+        }
+        for length in 0..=most {
+            for_each_text(signs, length, |text| {
+                let begins = Chart::new(text).begins_sentence(length);
+                assert_eq!(begins, beginnings.contains(text), "{}", text.escape_ascii());
+            });
+        }
     }
 }
 
@@ -158,16 +197,21 @@ fn longer_random_texts_are_judged_as_the_grammar_says() {
         nodes: 40,
         special: 4,
     };
-    let mut seen = [0, 0];
+    let mut seen = [0; 21];
     for _ in 0..6_000 {
         let mut text = sentence(&mut random, b"aZ", &bounds);
         for _ in 0..random.below(3) {
             let at = random.below(text.len());
-            text[at] = random.pick(b"aB01|&!*()");
+            text[at] = random.pick(b"aB01|&!*()[].");
         }
-        let expected = Chart::new(&text).verdict();
-        seen[usize::from(expected == (0, 0))] += 1;
-        assert_eq!(answer(&text), expected, "{}", text.escape_ascii());
+        if random.one_in(8) {
+            spoil_leaf(&mut random, &mut text, 40);
+        }
+        if text.iter().all(|&byte| is_listed(byte)) {
+            let expected = Chart::new(&text).verdict();
+            seen[expected.0 as usize] += 1;
+            assert_eq!(answer(&text), expected, "{}", text.escape_ascii());
+        }
     }
-    assert!(seen[0] > 1_000 && seen[1] > 1_000);
+    assert!(seen[0] > 1_000 && seen[4] > 1_000 && seen[20] > 100);
 }

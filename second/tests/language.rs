@@ -30,12 +30,20 @@ fn expression(rule: &Rule, node: usize) -> Rc<Expression> {
     Rc::new(match rule.nodes[node].kind {
         Kind::NoWord => E::NoWord,
         Kind::EmptyWord => E::EmptyWord,
-        Kind::Letter(letter) => E::Letter(letter),
+        Kind::OneOf(set) => return union_of_letters(set.letters()),
         Kind::Union(a, b) => E::Union(side(a), side(b)),
         Kind::Intersection(a, b) => E::Intersection(side(a), side(b)),
         Kind::Concatenation(a, b) => E::Concatenation(side(a), side(b)),
         Kind::Complement(a) => E::Complement(side(a)),
         Kind::Star(a) => E::Star(side(a)),
+    })
+}
+
+/// The union of the rules that letters are, one after another.
+fn union_of_letters(mut letters: impl Iterator<Item = u8>) -> Rc<Expression> {
+    let first = letters.next().expect("a set has a letter");
+    letters.fold(Rc::new(E::Letter(first)), |union, letter| {
+        Rc::new(E::Union(union, Rc::new(E::Letter(letter))))
     })
 }
 

@@ -7,6 +7,7 @@ use second::job::output;
 use second::judge::{judge, Answer};
 use second::random::Random;
 use second::rule::{read, Kind};
+use second::set::Set;
 
 /// The letters, written out.
 const LETTERS: &[u8] = b"abcdefghijklmnopqrstuvwxyzABCDEFGHIJKLMNOPQRSTUVWXYZ";
@@ -57,14 +58,15 @@ fn a_rule_takes_the_letters_at_every_place_and_no_other_byte() {
         "?", "?b", "a?b", "a?", "!?", "?|a", "a|?", "?&a", "a&?", "(?)", "?*", "!(?|b)*A",
     ];
     for text in texts {
-        for byte in (0..=255).filter(|byte| !b"01|&!*()".contains(byte)) {
+        for byte in (0..=255).filter(|byte| !b"01|&!*()[].".contains(byte)) {
             let (text, place) = with_byte(text, byte);
             let shown = text.escape_ascii();
             match read(&text) {
                 Ok(rule) => {
                     assert!(is_letter(byte), "{shown}");
                     let mut nodes = rule.nodes.iter().filter(|node| node.offset == place);
-                    assert!(nodes.any(|node| node.kind == Kind::Letter(byte)), "{shown}");
+                    let letter = Kind::OneOf(Set::of(&[byte]));
+                    assert!(nodes.any(|node| node.kind == letter), "{shown}");
                 }
                 Err(refusal) => {
                     assert!(!is_letter(byte), "{shown}");
@@ -114,7 +116,7 @@ fn a_day_line_takes_the_letters_and_no_other_byte() {
 
 #[test]
 fn a_job_takes_the_letters_in_both_its_parts() {
-    for byte in (0..=255).filter(|byte| !b"01|&!*()\n".contains(byte)) {
+    for byte in (0..=255).filter(|byte| !b"01|&!*()[].\n".contains(byte)) {
         let (job, _) = with_byte("R\t?\nE\t0\tQ\n", byte);
         let expected = match byte {
             b'Q' => "H\t1\t1\t0\t1\t3\nS\t0\t1\n",
@@ -136,7 +138,7 @@ fn a_job_takes_the_letters_in_both_its_parts() {
 fn a_capital_alone_is_a_rule_of_one_node() {
     let rule = read(b"A").unwrap();
     assert_eq!((rule.m(), rule.k()), (1, 0));
-    assert_eq!(rule.nodes[0].kind, Kind::Letter(65));
+    assert_eq!(rule.nodes[0].kind, Kind::OneOf(Set::of(b"A")));
     assert_eq!(output(b"R\tA\n"), "H\t0\t1\t0\t0\t1\n");
 }
 
@@ -194,10 +196,15 @@ fn a_complement_is_against_all_words_over_the_letters() {
     assert_eq!(judged(b"!a", b"A").0.count, 7);
 }
 
-/// The text with every letter in its other case.
+/// The text with every letter in its other case; letters in brackets have to rise again.
 fn swapped(text: &[u8]) -> Vec<u8> {
     let swap = |&byte: &u8| if is_letter(byte) { byte ^ 32 } else { byte };
-    text.iter().map(swap).collect()
+    let mut text: Vec<u8> = text.iter().map(swap).collect();
+    for part in text.split_mut(|&byte| byte == b'[').skip(1) {
+        let letters = part.iter().position(|&byte| byte == b']').unwrap();
+        part[..letters].sort();
+    }
+    text
 }
 
 #[test]

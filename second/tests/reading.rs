@@ -1,21 +1,23 @@
-//! The reader of rule texts: trees, offsets, and refusals 1 to 6 with their order and places.
+//! The reader of rule texts: trees, offsets, and refusals 1 to 6 with their order and places; those
+//! of sets have tests of their own.
 
 use second::generate::{grow_tree, write_tree};
 use second::random::Random;
 use second::rule::{read, Kind, Node, Rule};
+use second::set::Set;
 
 /// The records of an accepted text as offset and sign, a dot for concatenation.
 fn records(text: &str) -> String {
     let rule = read(text.as_bytes()).unwrap();
     let sign = |kind: Kind| match kind {
-        Kind::NoWord => '0',
-        Kind::EmptyWord => '1',
-        Kind::Letter(letter) => letter as char,
-        Kind::Union(..) => '|',
-        Kind::Intersection(..) => '&',
-        Kind::Concatenation(..) => '.',
-        Kind::Complement(_) => '!',
-        Kind::Star(_) => '*',
+        Kind::NoWord => "0".to_string(),
+        Kind::EmptyWord => "1".to_string(),
+        Kind::OneOf(set) => set.to_string(),
+        Kind::Union(..) => "|".to_string(),
+        Kind::Intersection(..) => "&".to_string(),
+        Kind::Concatenation(..) => ".".to_string(),
+        Kind::Complement(_) => "!".to_string(),
+        Kind::Star(_) => "*".to_string(),
     };
     let record = |node: &Node| format!("{}{}", sign(node.kind), node.offset);
     rule.nodes.iter().map(record).collect::<Vec<_>>().join(" ")
@@ -97,7 +99,7 @@ fn a_concatenation_stands_where_its_right_side_begins() {
 fn nodes_carry_their_sides_and_letters() {
     let letter = |offset: usize, letter: u8| Node {
         offset,
-        kind: Kind::Letter(letter),
+        kind: Kind::OneOf(Set::of(&[letter])),
     };
     let nodes = vec![
         letter(1, b'x'),
@@ -122,9 +124,9 @@ fn nodes_carry_their_sides_and_letters() {
 fn every_byte_alone() {
     for byte in 0..=255u8 {
         let expected = match byte {
-            b'A'..=b'Z' | b'a'..=b'z' | b'0' | b'1' => (0, 0),
-            b'|' | b'&' | b'*' | b')' => (4, 0),
-            b'!' | b'(' => (4, 1),
+            b'A'..=b'Z' | b'a'..=b'z' | b'0' | b'1' | b'.' => (0, 0),
+            b'|' | b'&' | b'*' | b')' | b']' => (4, 0),
+            b'!' | b'(' | b'[' => (4, 1),
             _ => (3, 0),
         };
         assert_eq!(verdict(&[byte]), expected, "byte {byte}");
@@ -252,6 +254,8 @@ struct Writer<'a> {
     kinds: &'a [Kind],
     /// Parentheses around every part, or only where document 01's order of tightness asks for them.
     everywhere: bool,
+    /// Brackets around every set, or only where neither a letter nor a dot will do.
+    brackets: bool,
     text: Vec<u8>,
     nodes: Vec<Node>,
 }
@@ -264,7 +268,7 @@ impl Writer<'_> {
             Kind::Concatenation(..) => 2,
             Kind::Complement(_) => 3,
             Kind::Star(_) => 4,
-            Kind::NoWord | Kind::EmptyWord | Kind::Letter(_) => 5,
+            Kind::NoWord | Kind::EmptyWord | Kind::OneOf(_) => 5,
         };
         if self.everywhere || tightness < least {
             self.text.push(b'(');
@@ -280,7 +284,7 @@ impl Writer<'_> {
         let offset = match kind {
             Kind::NoWord => self.sign(b"0"),
             Kind::EmptyWord => self.sign(b"1"),
-            Kind::Letter(letter) => self.sign(&[letter]),
+            Kind::OneOf(set) => self.set(set),
             Kind::Union(left, right) => self.sides((left, 0), b"|", (right, 1)),
             Kind::Intersection(left, right) => self.sides((left, 1), b"&", (right, 2)),
             Kind::Concatenation(left, right) => self.sides((left, 2), b"", (right, 3)),
@@ -295,6 +299,16 @@ impl Writer<'_> {
             }
         };
         self.nodes.push(Node { offset, kind });
+    }
+
+    /// A letter alone or in brackets, all letters as a dot or in brackets, others in brackets.
+    fn set(&mut self, set: Set) -> usize {
+        let letters: Vec<u8> = set.letters().collect();
+        match letters.len() {
+            1 if !self.brackets => self.sign(&letters),
+            52 if !self.brackets => self.sign(b"."),
+            _ => self.sign(&[b"[", &letters[..], b"]"].concat()),
+        }
     }
 
     fn sides(&mut self, left: (usize, usize), sign: &[u8], right: (usize, usize)) -> usize {
@@ -313,6 +327,7 @@ impl Writer<'_> {
 #[test]
 fn a_written_tree_reads_back() {
     let mut random = Random::new(1);
+    let mut too_long = 0;
     for round in 0..20_000 {
         let nodes = 1 + random.below(64);
         let kinds = grow_tree(&mut random, b"azAZ", nodes, 7);
@@ -321,11 +336,15 @@ fn a_written_tree_reads_back() {
         let mut writer = Writer {
             kinds: &kinds,
             everywhere,
+            brackets: round % 3 == 0,
             text: vec![],
             nodes: vec![],
         };
         writer.part(kinds.len() - 1, 0);
-        assert!(writer.text.len() <= 255);
+        if writer.text.len() > 255 {
+            too_long += 1;
+            continue;
+        }
         let expected = Rule {
             nodes: writer.nodes,
         };
@@ -336,6 +355,7 @@ fn a_written_tree_reads_back() {
             writer.text.escape_ascii()
         );
     }
+    assert!(too_long < 5_000, "{too_long}");
 }
 
 #[test]

@@ -3,10 +3,12 @@
 use second::generate::{grow_tree, write_tree};
 use second::limits::LETTERS;
 use second::random::Random;
-use second::rule::{self, is_leaf, read_sentence, Kind, Node, Rule};
+use second::rule::{self, read_sentence, Kind, Node, Rule};
 use second::rule_file::{read, Line};
 use second::rule_file_chains::{letter_at, Chain, DEEPEST};
 use second::rule_file_lines::good_lines;
+use second::set::Set;
+use second::shape::Shape;
 
 /// A file as the issue writes it down: an arrow for a tab, a slash for a newline.
 fn file(text: &str) -> Vec<u8> {
@@ -33,14 +35,14 @@ fn second_rule(rule: &str) -> Vec<u8> {
 /// The records of a line as offset and sign, a dot for concatenation.
 fn records(line: &Line) -> String {
     let sign = |kind: Kind| match kind {
-        Kind::NoWord => '0',
-        Kind::EmptyWord => '1',
-        Kind::Letter(letter) => letter as char,
-        Kind::Union(..) => '|',
-        Kind::Intersection(..) => '&',
-        Kind::Concatenation(..) => '.',
-        Kind::Complement(_) => '!',
-        Kind::Star(_) => '*',
+        Kind::NoWord => "0".to_string(),
+        Kind::EmptyWord => "1".to_string(),
+        Kind::OneOf(set) => set.to_string(),
+        Kind::Union(..) => "|".to_string(),
+        Kind::Intersection(..) => "&".to_string(),
+        Kind::Concatenation(..) => ".".to_string(),
+        Kind::Complement(_) => "!".to_string(),
+        Kind::Star(_) => "*".to_string(),
     };
     let record = |node: &Node| format!("{}{}", sign(node.kind), node.offset);
     let records: Vec<String> = line.rule.nodes.iter().map(record).collect();
@@ -320,7 +322,7 @@ fn the_first_bad_line_wins_whoever_uses_it() {
 }
 
 #[test]
-fn in_a_plain_rule_brackets_stay_foreign() {
+fn in_a_plain_rule_the_signs_of_a_name_stay_foreign() {
     for (text, place) in [("<x>", 0), ("a<", 1), (">", 0), ("a|b>", 3), (")<", 1)] {
         let refusal = rule::read(text.as_bytes()).unwrap_err();
         assert_eq!((refusal.number(), refusal.place), (3, place), "{text}");
@@ -343,7 +345,9 @@ fn texts_after_replacement_may_be_long() {
     for offset in [65_534, 65_535, 65_536, 65_537] {
         let lines = read(&letter_at(offset)).unwrap();
         let nodes = &lines.last().unwrap().rule.nodes;
-        let letter = nodes.iter().find(|node| node.kind == Kind::Letter(b'b'));
+        let letter = nodes
+            .iter()
+            .find(|node| node.kind == Kind::OneOf(Set::of(b"b")));
         assert_eq!(letter.unwrap().offset, offset);
     }
     // Ten million bytes that are not wanted, because their nodes are too many.
@@ -370,16 +374,20 @@ fn a_file_of_a_million_bytes_is_refused() {
 
 /// A sentence with so many parentheses around each leaf, and where its nodes then stand.
 fn enclosed(text: &[u8], rule: &Rule, depth: usize) -> (Vec<u8>, Vec<Node>) {
-    let leaves_before = |at: usize| text[..at].iter().filter(|&&byte| is_leaf(byte)).count();
+    let leaves: Vec<_> = Shape::of(text).leaves().collect();
+    let leaves_before = |at: usize| leaves.iter().filter(|leaf| leaf.start < at).count();
     let mut longer = Vec::new();
-    for &byte in text {
-        let around = if is_leaf(byte) { depth } else { 0 };
-        longer.extend(vec![b'('; around]);
-        longer.push(byte);
-        longer.extend(vec![b')'; around]);
+    let mut done = 0;
+    for leaf in &leaves {
+        longer.extend_from_slice(&text[done..leaf.start]);
+        longer.extend(vec![b'('; depth]);
+        longer.extend_from_slice(&text[leaf.clone()]);
+        longer.extend(vec![b')'; depth]);
+        done = leaf.end;
     }
+    longer.extend_from_slice(&text[done..]);
     let moved = |node: &Node| {
-        let has_no_sides = matches!(node.kind, Kind::NoWord | Kind::EmptyWord | Kind::Letter(_));
+        let has_no_sides = matches!(node.kind, Kind::NoWord | Kind::EmptyWord | Kind::OneOf(_));
         let inside = if has_no_sides { depth } else { 0 };
         Node {
             offset: node.offset + 2 * depth * leaves_before(node.offset) + inside,

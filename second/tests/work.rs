@@ -27,7 +27,7 @@ fn count_by_search(rule: &Rule, word: &[u8]) -> u64 {
 /// The innermost special node that strictly contains a node, or the whole rule.
 fn owner_of(rule: &Rule, node: usize) -> Owner {
     let sides = |kind: Kind| match kind {
-        Kind::NoWord | Kind::EmptyWord | Kind::Letter(_) => vec![],
+        Kind::NoWord | Kind::EmptyWord | Kind::OneOf(_) => vec![],
         Kind::Union(a, b) | Kind::Intersection(a, b) | Kind::Concatenation(a, b) => vec![a, b],
         Kind::Complement(a) | Kind::Star(a) => vec![a],
     };

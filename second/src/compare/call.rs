@@ -5,6 +5,7 @@ use std::fmt;
 use super::hours::Hours;
 use super::letters::Letters;
 use super::names::{self, Names};
+use super::sets::Sets;
 use super::trouble::Trouble;
 use crate::limits::MAX_RULE_LINES;
 
@@ -96,6 +97,8 @@ pub enum Kind {
     ShownNames(Names),
     /// Besides its number it shows this of the 25th hour.
     ShownHours(Hours),
+    /// Besides its number it shows this of sets of letters.
+    ShownSets(Sets),
     /// This happens to the program.
     Trouble(Trouble),
 }
@@ -119,6 +122,7 @@ impl fmt::Display for Kind {
             Kind::Shown(letters) => letters.fmt(formatter),
             Kind::ShownNames(names) => names.fmt(formatter),
             Kind::ShownHours(hours) => hours.fmt(formatter),
+            Kind::ShownSets(sets) => sets.fmt(formatter),
             Kind::Trouble(trouble) => trouble.fmt(formatter),
         }
     }
@@ -148,14 +152,14 @@ impl Callee {
     /// Every kind of case there can be, but for the lines at which a rule file is refused.
     pub fn kinds(self) -> Vec<Kind> {
         let numbers: Vec<u32> = match self {
-            Callee::ReadRule => (0..=6).collect(),
+            Callee::ReadRule => (0..=6).chain([20]).collect(),
             Callee::ReadDay => [0].into_iter().chain(11..=15).collect(),
-            Callee::Judge => (0..=10).collect(),
-            Callee::RunJob => (0..=6).chain(11..=16).collect(),
-            Callee::ReadRuleFile => (0..=6).chain(16..=19).collect(),
-            Callee::JudgeRuleFile => (0..=10).chain(16..=19).collect(),
+            Callee::Judge => (0..=10).chain([20]).collect(),
+            Callee::RunJob => (0..=6).chain(11..=16).chain([20]).collect(),
+            Callee::ReadRuleFile => (0..=6).chain(16..=20).collect(),
+            Callee::JudgeRuleFile => (0..=10).chain(16..=20).collect(),
             // The program's own buffer takes every text, so it never gives 15.
-            Callee::Program => (0..=6).chain(11..=14).chain([16]).collect(),
+            Callee::Program => (0..=6).chain(11..=14).chain([16, 20]).collect(),
             Callee::Troubled => return Trouble::ALL.map(Kind::Trouble).to_vec(),
         };
         let unanswered = (self != Callee::Program).then_some(Kind::Unanswered);
@@ -163,7 +167,8 @@ impl Callee {
         let letters = Letters::of(self).iter().copied().map(Kind::Shown);
         let names = Names::of(self).iter().copied().map(Kind::ShownNames);
         let hours = Hours::of(self).iter().copied().map(Kind::ShownHours);
-        let shown = letters.chain(names).chain(hours);
+        let sets = Sets::of(self).iter().copied().map(Kind::ShownSets);
+        let shown = letters.chain(names).chain(hours).chain(sets);
         numbers.chain(unanswered).chain(shown).collect()
     }
 

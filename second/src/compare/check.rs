@@ -5,7 +5,7 @@ use super::call::{Call, Callee, Kind, Library, UNANSWERED};
 use super::lent::{Difference, Dirt, Lent, Side};
 use super::reference;
 use super::request::{Asked, Request};
-use super::{hours, letters, names};
+use super::{hours, letters, names, sets};
 
 /// What came of one comparison.
 pub struct Checked {
@@ -40,7 +40,9 @@ fn shown(asked: &Asked, number: u32, place: usize) -> Vec<Kind> {
     let letters = letters.into_iter().map(Kind::Shown);
     let names = names::shown(asked, number, place);
     let hours = hours::shown(asked, number, place).map(Kind::ShownHours);
-    letters.chain(names).chain(hours).collect()
+    let sets = sets::shown(asked, number, place);
+    let sets = sets.into_iter().map(Kind::ShownSets);
+    letters.chain(names).chain(hours).chain(sets).collect()
 }
 
 /// What is wrong with the number that a call returned.

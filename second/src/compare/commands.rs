@@ -54,15 +54,17 @@ pub fn edges(library: &Library, command: &str, output: &mut dyn Write) -> io::Re
     let progress = Progress::start();
     progress.doing("edges: working out the cases".to_string());
     let requests = edge_requests::requests();
+    let all = requests.len() + edge_requests::pairs().count();
     let mut run = Run::new(output);
-    for (index, request) in requests.iter().enumerate() {
-        progress.doing(format!("edges: {index} of {} done", requests.len()));
+    let requests = requests.into_iter().chain(edge_requests::pairs());
+    for (index, request) in requests.enumerate() {
+        progress.doing(format!("edges: {index} of {all} done"));
         let label = Label {
             name: format!("case {} of the edges", index + 1),
             again: command.to_string(),
         };
-        let checked = check(library, &label.name, request);
-        run.add(&label, &[(checked, request as &dyn Display)])?;
+        let checked = check(library, &label.name, &request);
+        run.add(&label, &[(checked, &request as &dyn Display)])?;
         if run.is_over() {
             break;
         }

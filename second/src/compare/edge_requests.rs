@@ -1,12 +1,12 @@
 //! The edges as requests to the library: the streams of `second edges`, jobs, every byte where an
-//! event can stand, and rule files.
+//! event can stand, every two bytes in brackets, and rule files.
 
 use super::call::{Callee, FILE_LINES, FILE_NODES, NODES};
 use super::lent::Dirt;
 use super::request::{Asked, Request};
 use super::{job_edges, rule_file_requests};
 use crate::limits::LETTERS;
-use crate::{edges, job, letter_edges, table};
+use crate::{edges, job, letter_edges, rule_file_lines, set_edges, table};
 
 /// The streams of cases that `second edges` prints, but for `numbers`, which has none with a call.
 const STREAMS: [&str; 5] = ["rules", "days", "judge", "judge-large", "known"];
@@ -23,7 +23,7 @@ const PLAIN_NAMES: [&str; 8] = ["<a>", "a<a>", "a<", "a>", ">", "<>", "(<x>)", "
 /// How many elements a buffer has for the letters or the seconds of a few lines.
 const LINES: usize = 3;
 
-/// All the requests, one group after another.
+/// All the requests but those with two bytes in brackets, one group after another.
 pub fn requests() -> Vec<Request> {
     let mut requests = Vec::new();
     for name in STREAMS {
@@ -35,7 +35,8 @@ pub fn requests() -> Vec<Request> {
     let jobs = jobs.chain(job_edges::readers_jobs()).flat_map(with_outs);
     requests.extend(jobs.flat_map(in_all_dirt));
     // So many that each comes in ones or in noise alone, by turns.
-    let calls = (0..=255).flat_map(with_byte).enumerate();
+    let calls = (0..=255).flat_map(with_byte);
+    let calls = calls.chain(about_sets()).enumerate();
     requests.extend(calls.map(|(index, asked)| in_one_dirt(asked, index)));
     requests.extend(PLAIN_NAMES.into_iter().flat_map(with_plain_name));
     // Two neighbours are about one file, and come in the same dirt.
@@ -44,6 +45,16 @@ pub fn requests() -> Vec<Request> {
     requests.extend(too_short_to_answer());
     requests.extend(too_short_for_lines());
     requests
+}
+
+/// Every two bytes in brackets, as a rule to read; so many that each is made when it is asked.
+pub fn pairs() -> impl Iterator<Item = Request> {
+    let bytes = || 0..=255;
+    let texts = bytes().flat_map(move |one| bytes().map(move |two| set_edges::pair(one, two)));
+    texts.enumerate().map(|(index, text)| {
+        let nodes = NODES;
+        in_one_dirt(Asked::Rule { text, nodes }, index)
+    })
 }
 
 /// A call in ones and in noise, its answer longer than it must be.
@@ -105,6 +116,13 @@ fn with_byte(byte: u8) -> Vec<Asked> {
         let nodes = NODES;
         calls.push(Asked::Rule { text, nodes });
     }
+    for text in set_edges::with_byte(byte) {
+        // All letters, so that a set shows each event that it fits.
+        calls.push(judgement(&text, LETTERS));
+        calls.push(with_room(job_edges::job(&text, b"E\t0\tb\nE\t0\tB\n")));
+        let nodes = NODES;
+        calls.push(Asked::Rule { text, nodes });
+    }
     for file in letter_edges::days(byte) {
         calls.push(with_room(job_edges::job(b"!a", &file)));
         calls.push(Asked::Day {
@@ -114,6 +132,15 @@ fn with_byte(byte: u8) -> Vec<Asked> {
         });
     }
     calls
+}
+
+/// The rules about sets where the streams do not have them: judged, and as the line of a file.
+fn about_sets() -> impl Iterator<Item = Asked> {
+    set_edges::texts().into_iter().flat_map(|text| {
+        let file = rule_file_lines::line("x", &text);
+        let [read, judged] = rule_file_requests::read_and_judged(file);
+        [judgement(&text, b"ab"), read, judged]
+    })
 }
 
 /// A judge call with the highest limit, and with a table for one special node.

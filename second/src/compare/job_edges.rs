@@ -102,6 +102,29 @@ const CAPITALS: [&[u8]; 10] = [
     b"R\tE\nR\tE\nE\t0\tE\n",
 ];
 
+/// Rules with sets, good ones and bad ones, each on a few days.
+const SET_RULES: [&str; 19] = [
+    "[ab]",
+    "[az]",
+    "[Za]",
+    ".",
+    ".*",
+    "![ab]",
+    "a.|[bc]*",
+    "[ba]",
+    "[aa]",
+    "[aZ]",
+    "x[ab][ba]",
+    "[]",
+    "[a",
+    "]",
+    "[.]",
+    "[a|b]",
+    "[ba]|",
+    "[a-b]",
+    "[^a]",
+];
+
 /// The jobs, one group after another.
 pub fn jobs() -> Vec<Vec<u8>> {
     let mut jobs = vec![WHOLE_CASE.to_vec()];
@@ -116,6 +139,7 @@ pub fn jobs() -> Vec<Vec<u8>> {
     jobs.extend(hour_edges::days().iter().map(|day| job(b"ab", day)));
     jobs.extend(about_bytes());
     jobs.extend(about_letters());
+    jobs.extend(about_sets());
     jobs
 }
 
@@ -240,5 +264,18 @@ fn about_letters() -> Vec<Vec<u8>> {
         jobs.push(of_word(&[byte], b"aAzZ"));
         jobs.extend(letter_edges::days(byte).map(|day| job(b"!a", &day)));
     }
+    jobs
+}
+
+/// Sets in rules, and brackets that are no events.
+fn about_sets() -> Vec<Vec<u8>> {
+    let words: [&[u8]; 3] = [b"", b"aZb", b"zab"];
+    let on_words = |rule: &str| words.map(|word| of_word(rule.as_bytes(), word));
+    let mut jobs: Vec<Vec<u8>> = SET_RULES.into_iter().flat_map(on_words).collect();
+    jobs.extend([&b"["[..], b"]", b"."].map(|event| of_word(b"[ab]", event)));
+    for set in [".", "[ab]", "[ba]"] {
+        jobs.extend([32, 33].map(|times| of_word(&run(set, times), b"a")));
+    }
+    jobs.extend(["[ab]", "[ba]"].map(|set| of_word(&[run("!", 8), set.into()].concat(), b"a")));
     jobs
 }

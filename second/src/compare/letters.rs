@@ -11,6 +11,9 @@ use crate::{day, job, named_rule, rule_file};
 /// The bytes between the capitals and the small letters, which are no letters.
 const BETWEEN: RangeInclusive<u8> = b'['..=b'`';
 
+/// Those of them that may stand in a rule all the same.
+const BRACKETS: [u8; 2] = *b"[]";
+
 /// What a case may show: a capital in something accepted, or a byte between the two runs of letters
 /// as what is refused.
 #[derive(Clone, Copy, Debug, PartialEq, Eq, PartialOrd, Ord)]
@@ -47,7 +50,7 @@ impl fmt::Display for Letters {
             Letters::CapitalInRule => "accepted, rule with capital",
             Letters::CapitalInWord => "accepted, word with capital",
             Letters::CapitalInDay => "accepted, day with capital",
-            Letters::BetweenInRule => "refusal 3 for byte 91 to 96",
+            Letters::BetweenInRule => "refusal 3 for 92, 94 to 96",
             Letters::BetweenInWord => "refusal 8 for byte 91 to 96",
             Letters::BetweenInDay => "refusal 12 for byte 91 to 96",
         })
@@ -116,7 +119,7 @@ impl Parts<'_> {
         let if_met = |met: bool, shown: Letters| met.then_some(shown).into_iter().collect();
         match number {
             ACCEPTED => self.capitals(),
-            RULE_BYTE => if_met(is_between(self.rule[place]), Letters::BetweenInRule),
+            RULE_BYTE => if_met(is_foreign(self.rule[place]), Letters::BetweenInRule),
             WORD_BYTE => if_met(is_between(self.word[place]), Letters::BetweenInWord),
             LINE_FORM => if_met(has_letter_between(self.day, place), Letters::BetweenInDay),
             _ => Vec::new(),
@@ -140,6 +143,11 @@ impl Parts<'_> {
 /// Whether a byte stands between the two runs of letters.
 fn is_between(byte: u8) -> bool {
     BETWEEN.contains(&byte)
+}
+
+/// Whether a byte stands between the two runs of letters and may not stand in a rule.
+fn is_foreign(byte: u8) -> bool {
+    is_between(byte) && !BRACKETS.contains(&byte)
 }
 
 /// The letters of an accepted day: each line has its letter just before its newline.

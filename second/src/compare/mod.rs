@@ -24,6 +24,7 @@ pub mod request;
 pub mod rule_file_requests;
 pub mod run;
 pub mod running;
+pub mod sets;
 pub mod tally;
 pub mod trouble;
 pub mod troubled_input;

@@ -13,7 +13,7 @@ use super::check::Checked;
 use super::lent::{first_different, shown_around, Difference};
 use super::request::shown_bytes;
 use super::running::{Running, PATIENCE, REST};
-use super::{hours, letters};
+use super::{hours, letters, sets};
 use crate::job;
 use crate::limits::MAX_JOB_BYTES;
 use crate::random::Random;
@@ -86,12 +86,14 @@ pub fn check(program: &OsStr, input: &Input) -> Checked {
         Err(failure) => Some(failed_run(failure)),
     };
     let letters = letters::shown_by_job(input.job(), number, place);
-    let hours = hours::shown_by_job(input.job(), number, place);
+    let hours = hours::shown_by_job(input.job(), number, place).map(Kind::ShownHours);
+    let sets = sets::shown_by_job(input.job(), number);
+    let sets = sets.into_iter().map(Kind::ShownSets);
     let letters = letters.into_iter().map(Kind::Shown);
     Checked {
         callee: Callee::Program,
         kind: Kind::Number(number),
-        shown: letters.chain(hours.map(Kind::ShownHours)).collect(),
+        shown: letters.chain(hours).chain(sets).collect(),
         difference,
     }
 }

@@ -1,7 +1,7 @@
 //! Random whole jobs: good ones, ones damaged in any part, cut off, or longer than is read.
 
 use super::job_edges;
-use crate::generate::{any_byte, change_byte};
+use crate::generate::{any_byte, change_byte, spoil_leaf};
 use crate::limits::{LAST_SECOND, MAX_JOB_BYTES, MAX_RULE_BYTES};
 use crate::lines::{good_line, joined, Line};
 use crate::random::Random;
@@ -73,7 +73,7 @@ fn good_parts(random: &mut Random) -> Parts {
 
 /// A short sentence in as many parentheses as a rule's bytes allow, or in more of them.
 pub fn deeply_nested(random: &mut Random, more: usize) -> Vec<u8> {
-    let inner = random.pick(&[&b"a"[..], b"z*", b"!a", b"a|A", b"(aB)c&c", b"Z"]);
+    let inner = random.pick(&[&b"a"[..], b"z*", b"!a", b"a|A", b"(aB)c&c", b"[Za]", b"."]);
     let depth = (MAX_RULE_BYTES - inner.len()) / 2 + more;
     [&vec![b'('; depth], inner, &vec![b')'; depth]].concat()
 }
@@ -89,7 +89,7 @@ fn word_length(random: &mut Random) -> usize {
 
 /// Damages one part.
 fn damage(random: &mut Random, parts: &mut Parts) {
-    match random.below(10) {
+    match random.below(11) {
         0 => parts.lead = random.pick(&WRONG_LEADS).to_vec(),
         1 => parts.end = random.pick(&WRONG_ENDS).to_vec(),
         2 => parts.rule = bad_rule(random),
@@ -97,6 +97,7 @@ fn damage(random: &mut Random, parts: &mut Parts) {
             let byte = random.pick(b"\0\x80\xff\n\r\t @[\\]^_`{");
             change_byte(random, &mut parts.rule, byte, usize::MAX);
         }
+        4 => spoil_leaf(random, &mut parts.rule, usize::MAX),
         _ => random_days::damage(random, &mut parts.lines),
     }
 }

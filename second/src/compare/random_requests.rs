@@ -151,7 +151,7 @@ fn near_edge(random: &mut Random, edges: &[Vec<u8>]) -> Vec<u8> {
         let byte = if random.one_in(2) {
             any_byte(random)
         } else {
-            random.pick(b"aAzZ[_`\n\t01|!*()<>")
+            random.pick(b"aAzZ[]._`\n\t01|!*()<>")
         };
         change_byte(random, &mut bytes, byte, usize::MAX);
     }

@@ -1,29 +1,32 @@
 //! Random rule files: good ones, ones with a fault at any line, deep chains, and what is near them.
 
-use crate::generate::{alphabet, any_byte, change_byte, sentence, Bounds};
+use crate::generate::{alphabet, any_byte, change_byte, sentence, spoil_leaf, Bounds};
 use crate::limits::{MAX_NODES, MAX_RULE_BYTES, MAX_RULE_LINES, MAX_SPECIAL};
 use crate::named_rule;
 use crate::random::Random;
 use crate::refusal::Reason;
-use crate::rule::{is_leaf, Rule};
+use crate::rule::Rule;
 use crate::rule_file::Line;
 use crate::rule_file_chains::{enclosed, Chain, DEEPEST};
 use crate::rule_file_lines::{faulty_lines, good_lines, line, FIRST_NAME, LINE_REASONS};
+use crate::shape::Shape;
 
 /// How often a rule is drawn anew that its names make too large.
 const TRIES: usize = 4;
 
 /// Bytes that mean something in a rule file, or are next to one that does.
-const SIGNS: &[u8] = b"<<<>>>RR\t\t\t\n\n\naxAZ01|&!*()_`{\0\r ";
+const SIGNS: &[u8] = b"<<<>>>RR\t\t\t\n\n\naxAZ01|&!*()[]._`{\0\r ";
 
 /// Operands of a long rule, with the nodes that each has; a question mark stands for a name.
-const OPERANDS: [(&str, usize); 8] = [
+const OPERANDS: [(&str, usize); 10] = [
     ("?", 1),
     ("?", 1),
     ("?", 1),
     ("?", 1),
     ("(?)", 1),
     ("b", 1),
+    ("[bc]", 1),
+    (".", 1),
     ("?*", 2),
     ("!?", 2),
 ];
@@ -116,14 +119,18 @@ impl Grown {
         let sentence = sentence(random, letters, &bounds);
         let times = random.pick(&[1, 2, 4]);
         let mut written = Vec::new();
-        for byte in sentence {
+        let mut done = 0;
+        for leaf in Shape::of(&sentence).leaves() {
+            written.extend_from_slice(&sentence[done..leaf.start]);
+            done = leaf.end;
             match self.any_name(random) {
-                Some(name) if is_leaf(byte) && random.one_in(times) => {
+                Some(name) if random.one_in(times) => {
                     written.extend([b"<", name, b">"].concat());
                 }
-                _ => written.push(byte),
+                _ => written.extend_from_slice(&sentence[leaf]),
             }
         }
+        written.extend_from_slice(&sentence[done..]);
         written
     }
 
@@ -191,14 +198,24 @@ fn renamed(line: &[u8], name: &[u8]) -> Vec<u8> {
     renamed
 }
 
-/// Changes a few bytes, changes the order of the lines, or takes some bytes off the end.
+/// Changes a few bytes, changes the order of the lines, spoils a leaf of a line, or takes some
+/// bytes off the end.
 fn damage(random: &mut Random, file: &mut Vec<u8>) {
-    match random.below(6) {
+    match random.below(7) {
         0 => file.truncate(random.below(file.len() + 1)),
         1 | 2 => {
             let mut lines: Vec<&[u8]> = file.split_inclusive(|&byte| byte == b'\n').collect();
             let (one, other) = (random.below(lines.len()), random.below(lines.len()));
             lines.swap(one, other);
+            *file = lines.concat();
+        }
+        3 => {
+            let mut lines: Vec<Vec<u8>> = file
+                .split_inclusive(|&byte| byte == b'\n')
+                .map(<[u8]>::to_vec)
+                .collect();
+            let line = random.below(lines.len());
+            spoil_line(random, &mut lines[line]);
             *file = lines.concat();
         }
         _ => {
@@ -211,6 +228,14 @@ fn damage(random: &mut Random, file: &mut Vec<u8>) {
             }
         }
     }
+}
+
+/// Spoils a leaf in the rule of a line.
+fn spoil_line(random: &mut Random, line: &mut Vec<u8>) {
+    let last_tab = line.iter().rposition(|&byte| byte == b'\t');
+    let mut rule = line.split_off(last_tab.map_or(0, |tab| tab + 1));
+    spoil_leaf(random, &mut rule, usize::MAX);
+    line.extend(rule);
 }
 
 /// A file whose last text after replacement is long, mostly within the limits.
@@ -230,7 +255,7 @@ fn chain(random: &mut Random) -> Vec<u8> {
         }
     };
     if random.one_in(8) {
-        last.push_str(random.pick(&["|", "_", "<zz>", ")"]));
+        last.push_str(random.pick(&["|", "_", "<zz>", ")", "[ba]"]));
     }
     Chain::nested(letter, depth).then(&last).file
 }

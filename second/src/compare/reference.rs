@@ -102,9 +102,17 @@ fn record(node: &Node) -> [u64; 2] {
         Kind::Concatenation(..) => 4,
         Kind::Complement(_) => 5,
         Kind::Star(_) => 6,
-        Kind::Letter(letter) => letter.into(),
+        Kind::OneOf(set) => (1 << 63) + set.letters().map(letter_number).sum::<u64>(),
     };
     [node.offset as u64, kind]
+}
+
+/// What a letter adds to the number of a set.
+fn letter_number(letter: u8) -> u64 {
+    match letter {
+        b'A'..=b'Z' => 1 << (letter - b'A'),
+        _ => 1 << (26 + letter - b'a'),
+    }
 }
 
 /// Reads a day file into the two buffers.

@@ -21,7 +21,7 @@ const WORD: &[u8] = b"acBb";
 const REPLACEMENT_WORD: &[u8] = b"abA";
 
 /// Pairs of lines, `x` and `y`, of which the last alone is judged, and a word on which they differ.
-const LAST_LINES: [(&str, &str, &str); 8] = [
+const LAST_LINES: [(&str, &str, &str); 11] = [
     ("a", "b", "ab"),
     ("!a", "b", "ab"),
     ("a", "!b", "ab"),
@@ -30,6 +30,9 @@ const LAST_LINES: [(&str, &str, &str); 8] = [
     ("a", "!<x>&<x><x>*", "aab"),
     ("a&b", "!<x>!<x>", "ab"),
     ("!a", "(<x>&b)|!<x>", "abb"),
+    ("[ab]", "<x>*c", "abcac"),
+    ("[ac]", "!<x>&.", "abc"),
+    (".", "<x>[Zb]", "aZb"),
 ];
 
 /// A rule file and a word that only the table's length and the limit can get refused.

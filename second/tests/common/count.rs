@@ -27,7 +27,7 @@ pub fn count_by_languages(rule: &Rule, word: &[u8]) -> u64 {
             Kind::Star(inner) => before[inner] = join(&own, &spans[node]),
             // A special node's sides are searched for themselves, with nothing before them.
             Kind::Intersection(..) | Kind::Complement(_) => {}
-            Kind::NoWord | Kind::EmptyWord | Kind::Letter(_) => {}
+            Kind::NoWord | Kind::EmptyWord | Kind::OneOf(_) => {}
         }
     }
     let exits = before

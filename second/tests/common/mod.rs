@@ -25,7 +25,12 @@ pub fn literal_spans(rule: &Rule, word: &[u8]) -> Vec<Relation> {
         all.push(match node.kind {
             Kind::NoWord => relation(n, |_, _| false),
             Kind::EmptyWord => relation(n, |i, j| word[i..j].is_empty()),
-            Kind::Letter(letter) => relation(n, |i, j| word[i..j] == [letter]),
+            Kind::OneOf(set) => {
+                let letters: Vec<u8> = set.letters().collect();
+                relation(n, |i, j| {
+                    letters.iter().any(|&letter| word[i..j] == [letter])
+                })
+            }
             Kind::Union(a, b) => relation(n, |i, j| all[a][i][j] | all[b][i][j]),
             Kind::Intersection(a, b) => relation(n, |i, j| all[a][i][j] & all[b][i][j]),
             Kind::Complement(a) => relation(n, |i, j| !all[a][i][j]),

@@ -71,6 +71,8 @@ fn note_rule(bounds: &mut BTreeSet<String>, text: &[u8], nodes: usize) {
     match rule::read(text) {
         Ok(rule) => {
             note(bounds, has_capital(text), "rule with capital");
+            note(bounds, text.contains(&b'['), "rule with brackets");
+            note(bounds, text.contains(&b'.'), "rule with dot");
             note(bounds, rule.m() >= 63, format!("m {}", rule.m()));
             note(bounds, rule.k() == 7, "k 7");
             note(bounds, length == 255, "sentence of 255");
@@ -104,11 +106,14 @@ fn note_day(bounds: &mut BTreeSet<String>, file: &[u8], letters: usize, seconds:
 fn note_judge(bounds: &mut BTreeSet<String>, rule: &[u8], word: &[u8], limit: u64, table: usize) {
     let n = word.len();
     note(bounds, true, format!("n {n}"));
-    let Ok(reading) = rule::read(rule) else {
-        return;
+    let reading = match rule::read(rule) {
+        Ok(reading) => reading,
+        Err(refusal) => return note(bounds, true, format!("judge {}", refusal.number())),
     };
     let need = (reading.k() + 1) * (n + 1) * 4;
     note(bounds, has_capital(rule) && has_capital(word), "capitals");
+    note(bounds, rule.contains(&b'['), "judge with brackets");
+    note(bounds, rule.contains(&b'.'), "judge with dot");
     note(
         bounds,
         !has_capital(rule) && has_capital(word),
@@ -137,6 +142,8 @@ fn note_job(bounds: &mut BTreeSet<String>, bytes: &[u8], out: usize) {
     match job::judge_job(bytes) {
         Ok(report) => {
             let length = report.lines().len();
+            note(bounds, bytes.contains(&b'['), "job with brackets");
+            note(bounds, bytes.contains(&b'.'), "job with dot");
             note(bounds, out == 0, "out none");
             note(bounds, out + 1 == length, "out short");
             note(bounds, out == length, "out exact");
@@ -155,6 +162,8 @@ fn note_file(bounds: &mut BTreeSet<String>, file: &[u8]) {
     note(bounds, lines.len() == 1, "1 rule");
     note(bounds, lines.len() == 16, "16 rules");
     note(bounds, file.contains(&b'<'), "file with names");
+    note(bounds, file.contains(&b'['), "file with brackets");
+    note(bounds, file.contains(&b'.'), "file with dot");
     let last = lines.last().unwrap();
     note(bounds, last.name.len() == 12, "name of 12");
     note(bounds, last.text.len() > 110_000, "long text");
@@ -239,7 +248,9 @@ fn every_bound_is_drawn() {
         file n 256;file table short;file table exact;file table long;file limit below;\
         file limit exact;day in hour 25;day after hour 25;day at 86399;day at 86400;day at 89999;\
         day at 90000;job in hour 25;job after hour 25;job at 86399;job at 86400;job at 89999;\
-        job at 90000";
+        job at 90000;rule 20;judge 20;job 20;file 20;rule with brackets;rule with dot;\
+        judge with brackets;judge with dot;job with brackets;job with dot;file with brackets;\
+        file with dot";
     for bound in expected.split(';') {
         assert!(bounds.contains(bound), "{bound} was not drawn");
     }

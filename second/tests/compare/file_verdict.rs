@@ -3,7 +3,7 @@
 use second::rule::check_sentence;
 
 /// The numbers of a line in the order in which they are looked for.
-pub const ORDER: [u64; 9] = [16, 18, 1, 2, 3, 4, 17, 5, 6];
+pub const ORDER: [u64; 10] = [16, 18, 1, 2, 3, 4, 17, 20, 5, 6];
 
 /// A mistake.
 #[derive(Debug, PartialEq)]
@@ -46,6 +46,14 @@ pub enum Wrong {
     LowestNumberFirst,
     /// The number at this index of the order is looked for before the one in front of it.
     Swapped(usize),
+    /// A number is looked for before another one, and all those between.
+    Before(u64, u64),
+    /// 20 comes only for a letter below the one before it.
+    EqualLettersTaken,
+    /// The place of 20 is the letter's offset.
+    PlaceOfFallenLetter,
+    /// A name may stand in brackets.
+    NamesInBrackets,
 }
 
 /// A line in its parts, as far as it has them.
@@ -117,6 +125,7 @@ fn place(number: u64, index: usize, line: &Parts, wrong: &Wrong) -> u64 {
         Wrong::PlaceOfRuleFault if number == 3 => {
             line.rule.iter().position(|&byte| is_foreign(byte)).unwrap()
         }
+        Wrong::PlaceOfFallenLetter if number == 20 => fallen(line.rule, u8::le).unwrap(),
         Wrong::PlaceFromZero => index,
         _ => index + 1,
     };
@@ -126,8 +135,13 @@ fn place(number: u64, index: usize, line: &Parts, wrong: &Wrong) -> u64 {
 /// The number of a line, with the lines from it on and those before it.
 fn number(line: &Parts, from_here: &[Parts], known: &[Known], wrong: &Wrong) -> u64 {
     let mut order = ORDER;
-    if let Wrong::Swapped(at) = *wrong {
-        order.swap(at - 1, at);
+    match *wrong {
+        Wrong::Swapped(at) => order.swap(at - 1, at),
+        Wrong::Before(one, other) => {
+            let index = |number: u64| ORDER.iter().position(|&any| any == number).unwrap();
+            order[index(other)..=index(one)].rotate_right(1);
+        }
+        _ => {}
     }
     let holds = |&number: &u64| holds(number, line, from_here, known, wrong);
     let number = order.into_iter().find(holds).unwrap_or(0);
@@ -149,7 +163,13 @@ fn holds(number: u64, line: &Parts, from_here: &[Parts], known: &[Known], wrong:
         2 if *wrong == Wrong::BytesAfterReplacement => text().len() > 255,
         2 => line.rule.len() > 255,
         3 => line.rule.iter().any(|&byte| is_foreign(byte)),
+        4 if *wrong == Wrong::NamesInBrackets => {
+            let form = replaced_with(line.rule, &[], b'x', wrong);
+            check_sentence(&form).is_err()
+        }
         4 => check_sentence(&form()).is_err(),
+        20 if *wrong == Wrong::EqualLettersTaken => fallen(line.rule, u8::lt).is_some(),
+        20 => fallen(line.rule, u8::le).is_some(),
         17 => names(line.rule, wrong).any(|name| !is_known(name, from_here, known, wrong)),
         5 if *wrong == Wrong::NodesAsWritten => count(&form()).0 > 64,
         5 => count(&text()).0 > 64,
@@ -246,13 +266,18 @@ fn names<'a>(rule: &'a [u8], wrong: &Wrong) -> impl Iterator<Item = &'a [u8]> {
 
 /// A rule's text after replacement, where an operand stands for a name that is not known.
 fn replaced(rule: &[u8], known: &[Known], wrong: &Wrong) -> Vec<u8> {
+    replaced_with(rule, known, b'1', wrong)
+}
+
+/// A rule's text after replacement, where such an operand stands for a name that is not known.
+fn replaced_with(rule: &[u8], known: &[Known], operand: u8, wrong: &Wrong) -> Vec<u8> {
     let mut text = Vec::new();
     for piece in pieces(rule, wrong) {
         match piece {
             Piece::Byte(byte) => text.push(byte),
             Piece::Name(name) => match known.iter().find(|(earlier, _)| *earlier == name) {
                 Some((_, put_in)) => text.extend([b"(", &put_in[..], b")"].concat()),
-                None => text.push(b'1'),
+                None => text.push(operand),
             },
         }
     }
@@ -283,14 +308,39 @@ pub fn own_parentheses(file: &[u8]) -> Vec<Vec<bool>> {
 
 /// Whether a byte may not stand in a rule.
 fn is_foreign(byte: u8) -> bool {
-    !byte.is_ascii_alphabetic() && !b"01|&!*()<>".contains(&byte)
+    !byte.is_ascii_alphabetic() && !b"01|&!*()[].<>".contains(&byte)
+}
+
+/// The first letter in brackets that falls from the one before it, whether the rule is a sentence
+/// or not.
+fn fallen(rule: &[u8], falls: fn(&u8, &u8) -> bool) -> Option<usize> {
+    let mut is_open = false;
+    for (at, byte) in rule.iter().enumerate() {
+        match byte {
+            b'[' => is_open = true,
+            b'a'..=b'z' | b'A'..=b'Z' if is_open => {
+                let before = &rule[at - 1];
+                if before.is_ascii_alphabetic() && falls(byte, before) {
+                    return Some(at);
+                }
+            }
+            _ => is_open = false,
+        }
+    }
+    None
 }
 
 /// The nodes and the special nodes of a text, whether it is a sentence or not.
-fn count(text: &[u8]) -> (usize, usize) {
+pub fn count(text: &[u8]) -> (usize, usize) {
     let (mut nodes, mut special) = (0, 0);
-    let mut after_operand = false;
+    let (mut after_operand, mut is_open) = (false, false);
     for &byte in text {
+        if is_open {
+            // The brackets were counted where they began.
+            is_open = byte != b']';
+            continue;
+        }
+        is_open = byte == b'[';
         let begins = !b"|&*)".contains(&byte);
         nodes += usize::from(after_operand && begins) + usize::from(!b"()".contains(&byte));
         special += usize::from(b"&!".contains(&byte));

@@ -88,14 +88,17 @@ fn bytes_between_the_cases_are_seen_where_they_are_refused() {
             91..=96 => vec![letters],
             _ => vec![],
         };
-        let rule = only(Letters::BetweenInRule);
+        let rule = match byte {
+            b'[' | b']' => vec![],
+            _ => only(Letters::BetweenInRule),
+        };
         assert_eq!(of_rule(&[b'a', byte], 3, 1), rule);
         assert_eq!(of_judge(&[b'a', byte], b"", 3, 1), rule);
         assert_eq!(of_judge(b"a", &[byte], 8, 0), only(Letters::BetweenInWord));
         // A newline would end the rule, and a good byte leaves the one behind it to be refused.
         if byte != b'\n' {
             let file = [b"R\tx\ta\nR\ty\t<x>", &[byte][..], b"_\n"].concat();
-            let is_good = byte.is_ascii_alphabetic() || b"01|&!*()<>".contains(&byte);
+            let is_good = byte.is_ascii_alphabetic() || b"01|&!*()[].<>".contains(&byte);
             let in_file = if is_good {
                 vec![Letters::BetweenInRule]
             } else {
@@ -134,7 +137,7 @@ fn what_is_never_shown_is_a_failure() {
     for missing in [
         "wuz_judge never had accepted, rule with capital",
         "wuz_judge never had accepted, word with capital",
-        "wuz_judge never had refusal 3 for byte 91 to 96",
+        "wuz_judge never had refusal 3 for 92, 94 to 96",
         "wuz_judge never had refusal 8 for byte 91 to 96",
         "the program never had accepted, day with capital",
         "the program never had refusal 12 for byte 91 to 96",
@@ -147,8 +150,9 @@ fn what_is_never_shown_is_a_failure() {
 }
 
 /// Places in a rule, in a word and in a day; the question mark stands for the byte.
-const RULE_PLACES: [&str; 11] = [
-    "?", "?b", "a?b", "a?", "!?", "?|a", "a|?", "?&a", "a&?", "(?)", "?*",
+const RULE_PLACES: [&str; 17] = [
+    "?", "?b", "a?b", "a?", "!?", "?|a", "a|?", "?&a", "a&?", "(?)", "?*", "[?]", "[?b]", "[B?b]",
+    "[B?]", "[B?", "?b]",
 ];
 const WORD_PLACES: [&str; 4] = ["?", "?b", "a?b", "a?"];
 const DAY_PLACES: [&str; 4] = [
@@ -159,7 +163,7 @@ const DAY_PLACES: [&str; 4] = [
 ];
 
 /// Places in a rule file: tag, tabs, name, rule, the name within it, and newline.
-const FILE_PLACES: [&str; 12] = [
+const FILE_PLACES: [&str; 17] = [
     "?\tx\ta\n",
     "R?x\ta\n",
     "R\t?\ta\n",
@@ -172,6 +176,11 @@ const FILE_PLACES: [&str; 12] = [
     "R\tx\ta\nR\ty\t?x>\n",
     "R\tx\ta\nR\ty\t<x?\n",
     "R\tx\ta\nR\ty\t<x>?R\tz\tb\n",
+    "R\tx\t[?]\n",
+    "R\tx\t[?b]\n",
+    "R\tx\t[B?b]\n",
+    "R\tx\t[B?]\n",
+    "R\tx\t[B?\n",
 ];
 
 /// All that the edges ask, by what reads it.

@@ -7,6 +7,9 @@ use second::compare::reference::{returned, run};
 /// What a buffer holds before a call.
 const KEPT: u64 = 77;
 
+/// The kind of the letter a, whose bit comes after those of the 26 capitals.
+const A: u64 = 9_223_372_036_921_884_672;
+
 /// Reads a rule; gives the number, the answer and the nodes.
 fn read_rule(text: &[u8], answer: usize, nodes: usize) -> (Option<u32>, Vec<u64>, Vec<u64>) {
     let (mut answer, mut nodes) = (vec![KEPT; answer], vec![KEPT; nodes]);
@@ -82,19 +85,60 @@ fn a_rule_has_two_numbers_for_each_node() {
     assert_eq!(number, Some(0));
     assert_eq!(answer, [0, 0, 0, 0, 9, 2, KEPT, KEPT]);
     let records = [
-        (2, 97),
+        (2, A),
         (3, 0),
         (3, 4),
         (5, 6),
         (0, 5),
         (7, 1),
-        (9, 90),
+        (9, (1 << 63) + (1 << 25)),
         (8, 3),
         (6, 2),
     ];
     let written: Vec<u64> = records.iter().flat_map(|&(at, kind)| [at, kind]).collect();
     assert_eq!(nodes[..18], written);
     assert_eq!(nodes[18..], [KEPT; 112]);
+}
+
+#[test]
+fn a_set_of_letters_has_a_bit_for_each() {
+    let kind = |text: &[u8]| read_rule(text, 6, 128).2[1];
+    // A and Z are bits 0 and 25, a and z are bits 26 and 51.
+    assert_eq!(kind(b"A"), 9_223_372_036_854_775_809);
+    assert_eq!(kind(b"Z"), 9_223_372_036_888_330_240);
+    assert_eq!(kind(b"a"), A);
+    assert_eq!(kind(b"z"), 9_225_623_836_668_461_056);
+    assert_eq!(kind(b"[ABCD]"), 9_223_372_036_854_775_823);
+    assert_eq!(kind(b"[AZaz]"), 9_225_623_836_769_124_353);
+    assert_eq!(kind(b"."), 9_227_875_636_482_146_303);
+    let all = b"[ABCDEFGHIJKLMNOPQRSTUVWXYZabcdefghijklmnopqrstuvwxyz]";
+    assert_eq!(kind(all), kind(b"."));
+    for letter in (b'A'..=b'Z').chain(b'a'..=b'z') {
+        assert_eq!(kind(&[b'[', letter, b']']), kind(&[letter]));
+    }
+    let (_, _, nodes) = read_rule(b"x[Aa]", 6, 128);
+    let x = (1 << 63) + (1 << 49);
+    assert_eq!(nodes[..6], [0, x, 1, A + 1, 1, 4]);
+}
+
+#[test]
+fn letters_that_do_not_rise_are_20_in_every_call() {
+    let refused = vec![20, 2, 0, 0, 0, 0];
+    let kept = vec![KEPT; 128];
+    assert_eq!(read_rule(b"[ba]", 6, 128), (Some(20), refused, kept));
+    let (number, answer, table) = judge(b"x[aa]", b"_", 0, 3);
+    assert_eq!((number, answer), (Some(20), vec![20, 3, 0, 0, KEPT]));
+    assert_eq!(table, [KEPT; 3]);
+    let (number, answer, out) = run_job(b"R\t[aZ]\nE\n", 2);
+    assert_eq!((number, answer), (Some(20), vec![20, 2, 0, 0, 0, KEPT]));
+    assert_eq!(out, b"??");
+    let file = b"R\tx\ta\nR\ty\t<x>[ba]\n";
+    let (number, answer, lines, nodes) = read_rule_file(file, [5, 32, 2_048]);
+    assert_eq!((number, answer), (Some(20), vec![20, 2, 0, 0, 0]));
+    assert_eq!((lines, nodes), (vec![KEPT; 32], vec![KEPT; 2_048]));
+    let (number, answer, table) = judge_rule_file(file, b"_", 0, [4, 1]);
+    assert_eq!((number, answer), (Some(20), vec![20, 2, 0, 0]));
+    assert_eq!(table, [KEPT]);
 }
 
 #[test]
@@ -187,9 +231,9 @@ fn a_rule_file_has_two_numbers_for_each_line_and_each_node() {
     assert_eq!((number, answer), (Some(0), vec![0, 0, 0, 0, 2, KEPT]));
     assert_eq!(lines[..4], [1, 0, 7, 2]);
     assert_eq!(lines[4..], [KEPT; 29]);
-    assert_eq!(nodes[..2], [0, 97]);
+    assert_eq!(nodes[..2], [0, A]);
     assert_eq!(nodes[2..128], [KEPT; 126]);
-    let second = [2, 97, 0, 5, 6, 97, 9, 97, 11, 6, 8, 4, 4, 3];
+    let second = [2, A, 0, 5, 6, A, 9, A, 11, 6, 8, 4, 4, 3];
     assert_eq!(nodes[128..142], second);
     assert_eq!(nodes[142..], [KEPT; 1_908]);
 }
@@ -202,7 +246,8 @@ fn the_last_of_sixteen_lines_has_the_last_nodes() {
     assert_eq!((number, answer), (Some(0), vec![0, 0, 0, 0, 16]));
     assert_eq!(lines, [1, 0].repeat(16));
     for (line, nodes) in nodes.chunks(128).enumerate() {
-        assert_eq!(nodes[..2], [0, 65 + line as u64]);
+        // Line 1 has A, whose bit is the lowest.
+        assert_eq!(nodes[..2], [0, (1 << 63) + (1 << line)]);
         assert_eq!(nodes[2..], [KEPT; 126]);
     }
 }

@@ -96,6 +96,14 @@ fn the_edges_find_a_library_with_wrong_verdicts() {
         Wrong::UsedNamesOf(13),
         Wrong::TabEndsRule,
         Wrong::LowestNumberFirst,
+        Wrong::EqualLettersTaken,
+        Wrong::PlaceOfFallenLetter,
+        Wrong::NamesInBrackets,
+        Wrong::Before(20, 4),
+        Wrong::Before(5, 20),
+        Wrong::Before(6, 20),
+        Wrong::Before(20, 17),
+        Wrong::Before(5, 17),
     ];
     for wrong in wrongs {
         let library = |_: &str, call: Call| with_verdict(call, &wrong);

@@ -3,7 +3,7 @@
 use crate::{answered, cases, check_answer, numbers, stream, Case};
 
 /// The seeds that the tests below draw from.
-const SEEDS: [usize; 13] = [1, 2, 3, 4, 5, 6, 7, 8, 9, 10, 11, 12, 13];
+const SEEDS: [usize; 14] = [1, 2, 3, 4, 5, 6, 7, 8, 9, 10, 11, 12, 13, 29];
 
 /// A stream as long as the limit lets it be.
 fn longest(seed: usize) -> Vec<u8> {
@@ -82,7 +82,7 @@ fn about_half_are_rules_and_both_are_often_accepted() {
 #[test]
 fn every_number_of_both_readers_occurs() {
     let times = numbers(&many());
-    for number in (0..=6).chain(11..=15) {
+    for number in (0..=6).chain(11..=15).chain([20]) {
         assert!(times[number] >= 3, "{number}: {} times", times[number]);
     }
 }
@@ -226,12 +226,36 @@ fn every_letter_is_accepted_and_every_byte_between_the_cases_refused() {
         };
         assert!(all.iter().any(rule) && all.iter().any(day), "{letter}");
     }
-    for byte in (91..=96).chain([64, 123]) {
+    for byte in [64, 92, 94, 95, 96, 123] {
         let refused = |(case, line): &(Case, String)| {
             let place = line.split('\t').nth(2).unwrap().parse::<usize>().unwrap();
             line.starts_with("rule\t3\t") && case.bytes[place] == byte
         };
         assert!(all.iter().any(refused), "{byte}");
+    }
+}
+
+#[test]
+fn sets_come_good_and_bad() {
+    let all = many();
+    let rules = all.iter().filter(|(case, _)| case.is_rule());
+    let rules: Vec<&(Case, String)> = rules.collect();
+    let times = |start: &str, meets: &dyn Fn(&[u8]) -> bool| {
+        let rules = rules.iter();
+        rules
+            .filter(|(case, line)| line.starts_with(start) && meets(&case.bytes))
+            .count()
+    };
+    let brackets = times("rule\t0\t", &|text| text.contains(&b'['));
+    let dots = times("rule\t0\t", &|text| text.contains(&b'.'));
+    assert!(brackets > rules.len() / 10 && dots > rules.len() / 20);
+    let fallen = times("rule\t20\t", &|_| true);
+    assert!(fallen > rules.len() / 50, "{fallen} of {}", rules.len());
+    for part in [&b"[]"[..], b"[a|", b"[.", b"[[", b"[(", b"[!"] {
+        assert!(times("rule\t4\t", &|text| has(text, part)) > 0);
+    }
+    for part in [&b"[^"[..], b"[a-", b"[a "] {
+        assert!(times("rule\t3\t", &|text| has(text, part)) > 0);
     }
 }
 

@@ -192,7 +192,7 @@ fn a_foreign_byte_is_3_at_the_first_one() {
         (b")_", 1),
         (b"()()`", 4),
         (b"a||b/c", 4),
-        (b")a)[)@", 3),
+        (b")a)^)@", 3),
         (b"!!!!!!!!_", 8),
     ];
     check_refused(3, &texts.map(|(text, place)| (text.to_vec(), place)));
@@ -340,13 +340,17 @@ fn every_byte_stands_alone_as_a_rule() {
             b'A'..=b'Z' | b'a'..=b'z' | b'0' | b'1' => {
                 format!("rule\t0\t0\t0\t0\t1\t0\t0:{}", char::from(byte))
             }
-            b'|' | b'&' | b'*' | b')' => "rule\t4\t0\t0\t0\t0\t0\t-".into(),
-            b'!' | b'(' => "rule\t4\t1\t0\t0\t0\t0\t-".into(),
+            b'.' => format!("rule\t0\t0\t0\t0\t1\t0\t0:{ALL_LETTERS}"),
+            b'|' | b'&' | b'*' | b')' | b']' => "rule\t4\t0\t0\t0\t0\t0\t-".into(),
+            b'!' | b'(' | b'[' => "rule\t4\t1\t0\t0\t0\t0\t-".into(),
             _ => "rule\t3\t0\t0\t0\t0\t0\t-".into(),
         };
         assert_eq!(rule_answer(&edges, &[byte]), expected, "byte {byte}");
     }
 }
+
+/// The letters as the record of a dot has them.
+const ALL_LETTERS: &str = "ABCDEFGHIJKLMNOPQRSTUVWXYZabcdefghijklmnopqrstuvwxyz";
 
 /// The bytes at the ends of the two runs of letters: letters, and others beside and between them.
 const ENDS: ([u8; 4], [u8; 8]) = ([65, 90, 97, 122], [64, 91, 92, 93, 94, 95, 96, 123]);
@@ -370,8 +374,100 @@ fn the_ends_of_the_letters_stand_everywhere_in_a_rule() {
         for letter in ENDS.0 {
             check_readings(&[(&with(text, letter), &with(reading, letter))]);
         }
-        check_refused(3, &ENDS.1.map(|byte| (with(text, byte).into(), place)));
+        let foreign = ENDS.1.iter().filter(|byte| !b"[]".contains(byte));
+        let foreign: Vec<(Vec<u8>, usize)> = foreign
+            .map(|&byte| (with(text, byte).into(), place))
+            .collect();
+        check_refused(3, &foreign);
+        check_refused(4, &[(with(text, b']').into(), place)]);
     }
+}
+
+#[test]
+fn sets_are_read_with_the_offset_of_their_first_byte() {
+    check_readings(&[
+        ("[ab]", "1 0 0:ab"),
+        ("[a]", "1 0 0:a"),
+        ("[Za]", "1 0 0:Za"),
+        ("[AZaz]", "1 0 0:AZaz"),
+        (".", &format!("1 0 0:{ALL_LETTERS}")),
+        (&format!("[{ALL_LETTERS}]"), &format!("1 0 0:{ALL_LETTERS}")),
+        ("a.b", &format!("5 0 0:a;1:{ALL_LETTERS};1:.;2:b;2:.")),
+        ("([ab])", "1 0 1:ab"),
+        ("[ab]c", "3 0 0:ab;4:c;4:."),
+        ("c[ab]", "3 0 0:c;1:ab;1:."),
+        ("c([ab])", "3 0 0:c;2:ab;1:."),
+        ("c![ab]", "4 1 0:c;2:ab;1:!;1:."),
+        ("[ab][cd][ef]", "5 0 0:ab;4:cd;4:.;8:ef;8:."),
+        ("x|[ab]y&[cd]*", "8 1 0:x;2:ab;6:y;6:.;8:cd;12:*;7:&;1:|"),
+        ("!![ab]**", "5 2 2:ab;6:*;7:*;1:!;0:!"),
+    ]);
+    check_sizes(&[
+        (text(&[("[ab]", 32), ("*", 1)]), 64, 0),
+        (text(&[(".", 32), ("*", 1)]), 64, 0),
+        (text(&[("!", 7), ("[ab]", 29)]), 64, 7),
+        (text(&[("(", 125), ("[ab]", 1), (")", 125), ("*", 1)]), 2, 0),
+    ]);
+}
+
+#[test]
+fn brackets_without_a_set_are_4_where_they_break() {
+    let texts = [
+        ("[]", 1),
+        ("[a", 2),
+        ("[", 1),
+        ("]", 0),
+        ("[.]", 1),
+        ("[0]", 1),
+        ("[a|b]", 2),
+        ("[[a]]", 1),
+        ("[ba]|", 5),
+        ("[ba", 3),
+        ("[aa]|)", 5),
+        (")[ba]", 0),
+        ("[ab]cd]", 6),
+        ("([a)]", 3),
+    ];
+    check_refused(4, &texts.map(|(text, place)| (text.into(), place)));
+    check_refused(
+        4,
+        &[
+            (text(&[("[", 1), ("a", 254)]), 255),
+            (text(&[("a", 254), ("[", 1)]), 255),
+            (text(&[("a", 254), ("]", 1)]), 254),
+            (text(&[("a", 33), ("[ba]|", 1)]), 38),
+            (text(&[("!", 8), ("[ba])", 1)]), 12),
+        ],
+    );
+}
+
+#[test]
+fn letters_that_do_not_rise_are_20_before_5_and_6() {
+    let texts = [
+        ("[ba]", 2),
+        ("[aa]", 2),
+        ("[aZ]", 2),
+        ("x[ab][ba]", 7),
+        ("[abca]", 4),
+        ("[a][aa]", 5),
+        ("[ab]ba[dc]", 8),
+    ];
+    check_refused(20, &texts.map(|(text, place)| (text.into(), place)));
+    check_refused(
+        20,
+        &[
+            (text(&[("a", 33), ("[ba]", 1)]), 35),
+            (text(&[("[aa]", 1), ("a", 33)]), 2),
+            (text(&[("!", 8), ("[ba]", 1)]), 10),
+            (text(&[("[", 1), ("a", 253), ("]", 1)]), 2),
+            (text(&[("a", 251), ("[ba]", 1)]), 253),
+            (text(&[("[", 1), (ALL_LETTERS, 2), ("]", 1)]), 53),
+        ],
+    );
+    check_refused(5, &[(text(&[("[ab]", 33)]), 0), (text(&[(".", 33)]), 0)]);
+    check_refused(6, &[(text(&[("!", 8), ("[ab]", 1)]), 0)]);
+    check_refused(2, &[(text(&[("a", 252), ("[ba]", 1)]), 0)]);
+    check_refused(3, &[(b"[a-c]".to_vec(), 2), (b"[ba]_".to_vec(), 4)]);
 }
 
 #[test]
@@ -696,11 +792,11 @@ fn a_buffer_shorter_than_n_is_15_after_all_lines() {
 #[test]
 fn every_number_of_both_readers_occurs() {
     let times = numbers(&edges());
-    for number in (0..=6).chain(11..=15) {
+    for number in (0..=6).chain(11..=15).chain([20]) {
         assert!(times[number] > 0, "no {number}");
     }
     assert_eq!(times[7..=10], [0; 4]);
-    assert_eq!(times[16], 0);
+    assert_eq!(times[16..=19], [0; 4]);
 }
 
 #[test]

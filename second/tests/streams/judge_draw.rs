@@ -71,7 +71,7 @@ fn every_answer_is_what_the_definitions_ask() {
 #[test]
 fn every_number_of_the_judge_occurs_and_most_calls_come_to_the_count() {
     let all = many();
-    for number in 0..=10 {
+    for number in (0..=10).chain([20]) {
         let times = all.iter().filter(|(_, answer)| answer.number == number);
         let times = times.count();
         assert!(times >= 2, "{number}: {times} times");
@@ -194,10 +194,25 @@ fn letters_of_both_cases_come_together_and_alone() {
     assert!(half >= 1 && other_half >= 1, "{half} {other_half}");
 }
 
+#[test]
+fn sets_come_in_many_rules_and_are_met_by_their_words() {
+    let all = many();
+    let accepted = |meets: &dyn Fn(&Call) -> bool| {
+        share(all, |call, answer| answer.number == 0 && meets(call))
+    };
+    let brackets = accepted(&|call| call.rule.contains(&b'['));
+    let dots = accepted(&|call| call.rule.contains(&b'.'));
+    assert!(brackets >= 10 && dots >= 8, "{brackets} {dots}");
+    let found = share(all, |call, answer| {
+        answer.found > 0 && call.rule.iter().any(|byte| b"[.".contains(byte))
+    });
+    assert!(found >= 10, "{found} in a hundred");
+}
+
 /// The sides of a node.
 fn sides(kind: Kind) -> Vec<usize> {
     match kind {
-        Kind::NoWord | Kind::EmptyWord | Kind::Letter(_) => vec![],
+        Kind::NoWord | Kind::EmptyWord | Kind::OneOf(_) => vec![],
         Kind::Union(a, b) | Kind::Intersection(a, b) | Kind::Concatenation(a, b) => vec![a, b],
         Kind::Complement(a) | Kind::Star(a) => vec![a],
     }
@@ -214,7 +229,7 @@ fn depth(rule: &Rule, node: usize) -> usize {
 fn has_empty_word(rule: &Rule, node: usize) -> bool {
     let obeys = |side: usize| has_empty_word(rule, side);
     match rule.nodes[node].kind {
-        Kind::NoWord | Kind::Letter(_) => false,
+        Kind::NoWord | Kind::OneOf(_) => false,
         Kind::EmptyWord | Kind::Star(_) => true,
         Kind::Union(a, b) => obeys(a) || obeys(b),
         Kind::Intersection(a, b) | Kind::Concatenation(a, b) => obeys(a) && obeys(b),

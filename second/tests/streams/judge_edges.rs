@@ -99,7 +99,7 @@ fn each_stream_and_its_answers_stay_small() {
 #[test]
 fn every_number_of_the_judge_occurs() {
     let edges = edges();
-    for number in 0..=10 {
+    for number in (0..=10).chain([20]) {
         assert!(
             edges.iter().any(|(_, answer)| answer.number == number),
             "no {number}"
@@ -378,6 +378,33 @@ fn a_complement_is_against_all_letters() {
 }
 
 #[test]
+fn sets_fit_their_letters_and_no_others() {
+    let edges = edges();
+    let alphabet = alphabet();
+    let each = |places: std::ops::Range<usize>| -> Vec<(usize, usize)> {
+        places.map(|i| (i, i + 1)).collect()
+    };
+    check_spans(edges, b"[ab]", b"abc", &each(0..2));
+    check_spans(edges, b"[ac]", b"abc", &[(0, 1), (2, 3)]);
+    check_spans(edges, b"[bc]", b"a", &[]);
+    check_spans(edges, b"[Za]", b"YZabz", &each(1..3));
+    check_spans(edges, b"[az]", b"AaZz", &[(1, 2), (3, 4)]);
+    check_spans(edges, b".", b"zZqQ", &each(0..4));
+    check_spans(edges, b".", b"", &[]);
+    check_spans(edges, b"!(.*)", b"aA", &[]);
+    check_spans(edges, b"a.b", b"acbab", &[(0, 3)]);
+    check_spans(edges, b"[ab]&[bc]", b"abc", &[(1, 2)]);
+    check_spans(edges, b"[ab][bc]", b"abbc", &[(0, 2), (1, 3), (2, 4)]);
+    // a to m and N to Z are the first and the last quarter of the alphabet in this order.
+    let quarters = [each(0..13), each(39..52)].concat();
+    check_spans(edges, b"[NOPQRSTUVWXYZabcdefghijklm]", &alphabet, &quarters);
+    let (call, answer) = of(edges, b".", &alphabet)[0];
+    assert_eq!(*answer, call.stopped());
+    // The entry at each of 53 starts, and 52 exits.
+    assert_eq!(call.limit, 104);
+}
+
+#[test]
 fn rules_of_64_nodes_are_judged() {
     let edges = edges();
     let word = [b'a'; 33];
@@ -566,7 +593,7 @@ fn of_several_faults_the_lowest_number_wins() {
 #[test]
 fn the_rule_texts_row_comes_first() {
     let edges = edges();
-    let bad: [(&[u8], usize, usize); 11] = [
+    let bad: [(&[u8], usize, usize); 12] = [
         (b"", 1, 0),
         (&[b'a'; 256], 2, 0),
         (b"_", 3, 0),
@@ -578,6 +605,7 @@ fn the_rule_texts_row_comes_first() {
         (b"a()b", 4, 2),
         (&[b'a'; 33], 5, 0),
         (b"!!!!!!!!a", 6, 0),
+        (b"x[ba]", 20, 3),
     ];
     // A good call but for the rule, a limit of 0, no table, a bad byte, and all faults at once.
     let calls: [(&[u8], usize, u64); 6] = [

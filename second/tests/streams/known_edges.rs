@@ -10,7 +10,7 @@ use crate::judge_edges::{
 use crate::{answer_lines, answered, cases, stream};
 
 /// How many judge calls there are; they come before all else.
-const CALLS: usize = 50;
+const CALLS: usize = 58;
 
 /// The judge calls with their answers, asked for once for all tests.
 fn edges() -> &'static [(Call, Answer)] {
@@ -48,7 +48,7 @@ fn the_stream_is_answered_whole_and_stays_small() {
     assert!(numbers.iter().all(|case| case.header[0] == "numbers"));
     let lines = answer_lines(&stream);
     assert_eq!(lines.len(), cases.len());
-    assert_eq!(lines.len(), 55);
+    assert_eq!(lines.len(), 63);
     let bytes: usize = lines.iter().map(|line| line.len() + 1).sum();
     assert!(bytes <= 60_000, "{bytes} bytes of answers");
 }
@@ -63,7 +63,7 @@ fn every_answer_is_what_the_definitions_ask() {
 #[test]
 fn every_number_of_the_judge_occurs() {
     let numbers: BTreeSet<usize> = edges().iter().map(|(_, answer)| answer.number).collect();
-    assert_eq!(numbers, (0..=10).collect());
+    assert_eq!(numbers, (0..=10).chain([20]).collect());
 }
 
 #[test]
@@ -234,7 +234,7 @@ fn the_traps_are_walked() {
 }
 
 #[test]
-fn the_traps_of_the_letters_are_the_last_calls() {
+fn the_traps_of_the_letters_are_walked() {
     check_spans(edges(), b"A", b"A", &[(0, 1)]);
     check_spans(
         edges(),
@@ -243,9 +243,33 @@ fn the_traps_of_the_letters_are_the_last_calls() {
         &[(0, 0), (0, 2), (1, 1), (1, 2), (2, 2)],
     );
     check_spans(edges(), b"Z", b"zZ", &[(1, 2)]);
-    let last = edges()[47..].iter();
-    let words: Vec<&[u8]> = last.map(|(call, _)| &call.word[..]).collect();
+    let letters = edges()[47..50].iter();
+    let words: Vec<&[u8]> = letters.map(|(call, _)| &call.word[..]).collect();
     assert_eq!(words, [&b"A"[..], b"aA", b"zZ"]);
+}
+
+#[test]
+fn sets_are_the_last_calls() {
+    check_spans(edges(), b"[abc]", b"adc", &[(0, 1), (2, 3)]);
+    check_spans(edges(), b"[Za]", b"aZz", &[(0, 1), (1, 2)]);
+    check_spans(edges(), b".", b"aZ", &[(0, 1), (1, 2)]);
+    // The complement of all words has no word, and nothing is joined to it.
+    check_spans(edges(), b"!.*[bc]", b"abac", &[]);
+    for (rule, number, place) in [
+        (&b"[ba]"[..], 20, 2),
+        (b"[aa]", 20, 2),
+        (b"[]", 4, 1),
+        (b"[ba]|", 4, 5),
+    ] {
+        check_refused(rule, b"", number, place);
+    }
+    let rules: Vec<&[u8]> = edges()[50..]
+        .iter()
+        .map(|(call, _)| &call.rule[..])
+        .collect();
+    let sets = [&b"[abc]"[..], b"[Za]", b".", b"!.*[bc]"];
+    let bad = [&b"[ba]"[..], b"[aa]", b"[]", b"[ba]|"];
+    assert_eq!(rules, [sets, bad].concat());
 }
 
 #[test]

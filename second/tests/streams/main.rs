@@ -115,8 +115,8 @@ fn answered(stream: &[u8]) -> Vec<(Case, String)> {
 }
 
 /// How often each number stands in the answers, accepted cases under 0.
-fn numbers(answered: &[(Case, String)]) -> [usize; 17] {
-    let mut times = [0; 17];
+fn numbers(answered: &[(Case, String)]) -> [usize; 21] {
+    let mut times = [0; 21];
     for (_, line) in answered {
         times[line.split('\t').nth(1).unwrap().parse::<usize>().unwrap()] += 1;
     }
@@ -168,7 +168,29 @@ fn check_answer(case: &Case, line: &str) {
     }
 }
 
-/// An accepted rule has a record for each byte that is a node, and the limits are kept.
+/// The offset and the sign of each node that an accepted rule text writes; a set has its letters.
+fn written_nodes(text: &[u8]) -> Vec<String> {
+    let mut nodes = Vec::new();
+    let mut at = 0;
+    while at < text.len() {
+        let closing = text[at..].iter().position(|&byte| byte == b']');
+        let (length, sign) = match text[at] {
+            b'[' => {
+                let length = closing.unwrap() + 1;
+                (length, text[at + 1..at + length - 1].to_vec())
+            }
+            b'.' => (1, (b'A'..=b'Z').chain(b'a'..=b'z').collect()),
+            byte => (1, vec![byte]),
+        };
+        if !b"()".contains(&text[at]) {
+            nodes.push(format!("{at}:{}", String::from_utf8(sign).unwrap()));
+        }
+        at += length;
+    }
+    nodes
+}
+
+/// An accepted rule has a record for each node that it writes, and the limits are kept.
 fn check_accepted_rule(text: &[u8], fields: &[&str]) {
     assert_eq!(fields[2], "0");
     let (m, k): (usize, usize) = (fields[5].parse().unwrap(), fields[6].parse().unwrap());
@@ -181,11 +203,7 @@ fn check_accepted_rule(text: &[u8], fields: &[&str]) {
         .filter(|record| !record.ends_with('.'))
         .map(|record| record.to_string())
         .collect();
-    let parenthesis = |byte: u8| byte == b'(' || byte == b')';
-    let mut expected: Vec<String> = (0..text.len())
-        .filter(|&at| !parenthesis(text[at]))
-        .map(|at| format!("{at}:{}", char::from(text[at])))
-        .collect();
+    let mut expected = written_nodes(text);
     signs.sort_unstable();
     expected.sort_unstable();
     assert_eq!(signs, expected);
