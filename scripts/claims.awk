@@ -2,14 +2,13 @@
 # Lines of `second cases` have six fields, the third a list of spans; lines of `second readings` are told apart by KIND=readings.
 BEGIN {
     FS = "\t"
-    for (i = 1; i < 128; i++) code[sprintf("%c", i)] = i
     kind["0"] = "Empty"; kind["1"] = "Epsilon"; kind["|"] = "Union"; kind["&"] = "Intersection"
     kind["."] = "Concatenation"; kind["!"] = "Complement"; kind["*"] = "Star"
 }
 
 function claim(text) {
     name = "claim-" KIND "-" ++claims
-    print "\n" name " : " text "\nunfolding treeOf parse records scanFrom isEvent obeying accepts fullCount found block obeys packedRun packed onesOf ones"
+    print "\n" name " : " text "\nunfolding treeOf parse leafAt leading gathered bitOf records scanFrom unorderedFrom isEvent holds hasBit obeying accepts fullCount found block obeys packedRun packed onesOf ones"
     print name " = refl"
 }
 
@@ -29,7 +28,7 @@ function spans_list(field,    n, i, items) {
 function node_of(item,    at, sign) {
     at = index(item, ":")
     sign = substr(item, at + 1)
-    return "node " substr(item, 1, at - 1) " " (sign in kind ? kind[sign] : "(Letter " code[sign] ")")
+    return "node " substr(item, 1, at - 1) " " (sign in kind ? kind[sign] : "(Letter (lettersOf (bytes \"" sign "\")))")
 }
 
 # the offsets of the special nodes, rising
@@ -53,6 +52,8 @@ KIND == "cases" {
 
 KIND == "readings" && $2 == 4 { claim("scanned (bytes \"" $1 "\") ≡ Broken " $3) }
 
+KIND == "readings" && $2 == 20 { claim("unorderedAt (bytes \"" $1 "\") ≡ " $3) }
+
 KIND == "readings" && $2 == 0 {
     tree = "(treeOf (bytes \"" $1 "\"))"
     n = split($6, items, ";")
@@ -60,4 +61,5 @@ KIND == "readings" && $2 == 0 {
     for (i = 1; i <= n; i++) items[i] = node_of(items[i])
     claim("records " tree " ≡ " join_list(items, n))
     claim("scanned (bytes \"" $1 "\") ≡ Complete " $4 " " $5)
+    claim("unorderedAt (bytes \"" $1 "\") ≡ " length($1))
 }

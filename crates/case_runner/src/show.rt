@@ -3,30 +3,42 @@ use crate::output::print;
 use crate::output::print_decimal;
 use crate::output::print_number;
 use day::Outcome as DayOutcome;
+use event::sets;
+use event::sets::LetterSet;
 use regex::Kind;
 use regex::Node;
 use verdict::Verdict;
 ghost use mathlib.Core.Path.{_≡_};
 ghost use lib.ListN.{length};
 
-// The sign of a kind; a dot stands for concatenation.
-fn sign_of(kind: Kind) -> u8 {
+// The letters of a set, rising.
+fn print_set(set: LetterSet) {
+    let mut index = sets::next_index(set, 0);
+    while index < 52 {
+        print(&[sets::letter_at(index)]);
+        index = sets::next_index(set, index + 1);
+    }
+}
+
+// A set's letters, or the sign of another kind; a dot stands for concatenation.
+fn print_kind(kind: Kind) {
     match kind {
-        Kind::Empty => b'0',
-        Kind::Epsilon => b'1',
-        Kind::Letter(letter) => letter,
-        Kind::Union => b'|',
-        Kind::Intersection => b'&',
-        Kind::Concatenation => b'.',
-        Kind::Complement => b'!',
-        Kind::Star => b'*',
+        Kind::Empty => print(b"0"),
+        Kind::Epsilon => print(b"1"),
+        Kind::Letter(set) => print_set(set),
+        Kind::Union => print(b"|"),
+        Kind::Intersection => print(b"&"),
+        Kind::Concatenation => print(b"."),
+        Kind::Complement => print(b"!"),
+        Kind::Star => print(b"*"),
     }
 }
 
 fn print_node(node: Node) {
     print_decimal(node.offset as u64);
+    print(b":");
     let kind = node.kind;
-    print(&[b':', sign_of(kind)]);
+    print_kind(kind);
 }
 
 // A 64-bit number behind a tab.

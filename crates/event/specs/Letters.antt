@@ -6,9 +6,9 @@ use lib.Dec.{leb, eqb}
 use Rattle.event.specs.Event.{isEvent}
 
 -- numbers that are no events: all up to the digit `9`, among them the kinds of nodes, tab, newline, the digits and most signs of a rule;
--- and `|`, `<` and `>`
+-- and `|`, `<`, `>`, `[` and `]`
 abbrev pub isReserved : ℕ → Bool
-isReserved c = leb c 57 || eqb c 124 || eqb c 60 || eqb c 62
+isReserved c = leb c 57 || eqb c 124 || eqb c 60 || eqb c 62 || eqb c 91 || eqb c 93
 
 -- the events below a number, rising
 unfoldable pub eventsBelow : ℕ → List ℕ

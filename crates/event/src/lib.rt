@@ -1,4 +1,5 @@
-// Events: the one test of the alphabet; and what the readers of texts share.
+// Events: the one test of the alphabet; sets of letters; and what the readers of texts share.
+pub mod sets;
 pub mod text;
 
 ghost use mathlib.Core.Path.{_≡_};

@@ -1,4 +1,4 @@
--- Entries, moved up by a bit to the exits: those of a set, and those of the letters that an event is. Assumes nothing.
+-- Entries, moved up by a bit to the exits: those of a set, and those of the nodes that fit an event. Assumes nothing.
 use mathlib.Core.Path.{_≡_, refl, sym, ap, _∙_, subst}
 use mathlib.Core.Bool.{Bool, true, false, false≢true}
 use mathlib.Core.Logic.{inl, inr, ⊎-elim}
@@ -119,7 +119,7 @@ module _ (set : List ℕ) (even : Entries set) where
 -- ---- the letters of an event
 
 module _ (letters set : List ℕ) (e : ℕ) (even : (s : ℕ) → s < 128 → bitAt letters (128 * e + s) ≡ true → s % 2 ≡ 0) where
-  -- an entry in the set of a letter that the event is
+  -- an entry in the set, of a node that fits the event
   abbrev Letter : ℕ → Type 0
   Letter s = (bitAt set s ≡ true) × (bitAt letters (128 * e + s) ≡ true)
 

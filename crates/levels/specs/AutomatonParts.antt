@@ -7,7 +7,7 @@ use lib.ListN.{take, drop}
 abbrev pub closedPart : List ℕ → List ℕ
 closedPart a = take 256 a
 
--- the entries of each letter's nodes: bit 128 * c + s for the entry s of a node with the letter c
+-- the entries of each letter's nodes: bit 128 * c + s for the entry s of a node whose set has the letter c
 abbrev pub letterPart : List ℕ → List ℕ
 letterPart a = take 512 (drop 256 a)
 

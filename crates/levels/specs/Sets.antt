@@ -57,7 +57,7 @@ pub record AllLed (closed a e : List ℕ) : Type 0 where
 
 -- ---- events
 
--- t is the exit of a letter that the event is, and whose entry is in the set
+-- t is the exit of a node that fits the event, and whose entry is in the set
 pub record LetterExit (letters set : List ℕ) (event t : ℕ) : Type 0 where
   pub state : ℕ
   pub small : state < 128

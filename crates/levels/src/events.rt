@@ -1,4 +1,4 @@
-// Events: an event leads from the entries of its letters to their exits, which are the next states.
+// Events: an event leads from the entries of the nodes that fit it to their exits, which are the next states.
 ghost use mathlib.Core.Path.{_≡_};
 ghost use mathlib.Core.Bool.{true, false};
 ghost use Prim.Native.Nat.{ℕ, _+_, _*_, _%_, _<_};
@@ -22,7 +22,7 @@ pub fn move_up(x: u64) -> u64
     2 * x
 }
 
-// The exits of the letters that the event is and whose entries are in the set.
+// The exits of the nodes that fit the event and whose entries are in the set.
 pub fn next(letters: &[u64], set: &[u64], event: usize) -> [u64; 2]
     requires { ⌜ (length (now letters) ≡ 512) × (length (now set) ≡ 2) × (event < 256) ⌝ }
     requires { ⌜ ((s : ℕ) → s < 128 → bitAt (now letters) (128 * event + s) ≡ true → s % 2 ≡ 0) ⌝ }

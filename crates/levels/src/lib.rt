@@ -110,7 +110,7 @@ pub fn saturate(
     sets::copy(set)
 }
 
-// The exits of the letters that an event is and whose entries are in the set.
+// The exits of the nodes that fit an event and whose entries are in the set.
 pub fn next_states(automaton: &[u64], set: &[u64], event: u8) -> [u64; 2]
     requires { ⌜ (length (now automaton) ≡ 834) × (length (now set) ≡ 2) ⌝ }
     requires { ⌜ ((e s : ℕ) → s < 128 → bitAt (letterPart (now automaton)) (128 * e + s) ≡ true → s % 2 ≡ 0) ⌝ }

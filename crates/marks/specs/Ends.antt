@@ -18,7 +18,7 @@ abbrev pub Initial : (closed : List ℕ) (o : Target) (a : List ℕ) → Type 0
 Initial c o a =
     (s : ℕ) → s < 128 → (bitAt a s ≡ true) ↔ ((bitAt c (128 * (o .left - 1) + s) ≡ true) ⊎ (bitAt c (128 * (o .right - 1) + s) ≡ true))
 
--- a walk that is at the states of a at number i goes no further: none is the entry of a special node, or of a letter that event i is
+-- a walk that is at the states of a at number i goes no further: none is the entry of a special node, or of one that fits event i
 pub record EndsThere (letters specials word : List ℕ) (i : ℕ) (a : List ℕ) : Type 0 where
   pub plain : Disjoint a specials
   pub silent : i < length word → (t : ℕ) → LetterExit letters a (getD word i 0) t → ⊥

@@ -9,7 +9,7 @@ use Rattle.bits.specs.Runs.{tallyBelow, Adds}
 use Rattle.levels.specs.Sets.{LetterExit}
 use Rattle.marks.specs.Marks.{PlaceOf}
 
--- q is the place, at the number after j, of the exit of a letter that event j of the word is, if there is one, and whose entry is in the set
+-- q is the place, at the number after j, of the exit of a node that fits event j of the word, if there is one, and whose entry is in the set
 pub record NextExit (letters word set : List ℕ) (j q : ℕ) : Type 0 where
   pub within : j < length word
   pub number : q / 128 ≡ j + 1

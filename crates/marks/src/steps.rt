@@ -13,7 +13,7 @@ ghost use Rattle.levels.specs.AutomatonParts.{letterPart};
 ghost use Rattle.marks.specs.Marks.{MarkedIn};
 ghost use Rattle.marks.specs.Steps.{NextExit, Advanced};
 
-// Reads event j of the word, if there is one: marks the exits of its letters at the number after j.
+// Reads event j of the word, if there is one: marks the exits of the nodes that fit it at the number after j.
 fn read_next(automaton: &[u64], word: &[u8], marks: &mut [u64], set: &[u64], j: usize)
     requires { ⌜ (length (now automaton) ≡ 834) × (length (now marks) ≡ 512) × (length (now set) ≡ 2) ⌝ }
     requires { ⌜ (j ≤ length (now word)) × (length (now word) ≤ 255) ⌝ }

@@ -4,3 +4,4 @@ pub mod RowLaws
 -- Laws that the proofs of its functions cite.
 mod ClosingLaws
 mod RecordLaws
+mod LetterLaws

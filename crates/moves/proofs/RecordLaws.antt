@@ -1,6 +1,6 @@
 -- The free moves and the entries of a rule, record by record. Assumes nothing.
-use mathlib.Core.Path.{_≡_, sym, ap, _∙_}
-use mathlib.Core.Bool.{Bool, true, false, false≢true}
+use mathlib.Core.Path.{_≡_, sym, _∙_}
+use mathlib.Core.Bool.{true, false, false≢true}
 use mathlib.Core.Logic.{_⊎_, inl, inr, ⊎-elim}
 use mathlib.Core.List.{List}
 use Prim.Native.Nat.{ℕ, _+_, _*_, _/_, _%_, _≤_, _<_}
@@ -13,32 +13,14 @@ use Rattle.bits.proofs.Laws.{put-adds, adds-none, adds-then, adds-as, zeros-bit
 use Rattle.regex.specs.declared.Kind.{Kind}
 use Rattle.regex.specs.declared.Kind.the-variants.{Empty, Epsilon, Letter, Union, Intersection, Concatenation, Complement, Star}
 use Rattle.regex.specs.declared.Node.{Node}
-use Rattle.moves.specs.Moves.{kindAt, specialKind, NotFirst, SidesBefore, KindMove, RecordMove, KindLetter, LetterEntry, KindSpecial}
-use Rattle.moves.specs.Moves.{SpecialEntry}
+use Rattle.moves.specs.Moves.{kindAt, specialKind, NotFirst, SidesBefore, KindMove, RecordMove, fitsLetter, KindLetter, LetterEntry}
+use Rattle.moves.specs.Moves.{KindSpecial, SpecialEntry}
 use Rattle.moves.specs.Closing.{LeaveBelow}
 
 -- ---- one node's entries
 
--- a kind is a letter
-abbrev pub isLetter : Kind → Bool
-isLetter Empty = false
-isLetter Epsilon = false
-isLetter (Letter c) = true
-isLetter Union = false
-isLetter Intersection = false
-isLetter Concatenation = false
-isLetter Complement = false
-isLetter Star = false
-
-pub letter-put : {a b : List ℕ} (c i : ℕ) → i < 64 → Put a (128 * c + 2 * i) b → Adds a (KindLetter (Letter c) i) b
-letter-put c i l p =
-    adds-as
-    (λ q (e : q ≡ 128 * c + 2 * i). let o : c ≡ q / 128 = omega arith in record { entry = omega arith; letter = ap Letter o })
-    (λ q u. let e = u .entry in let o : c ≡ q / 128 = cc (u .letter) in omega arith)
-    (put-adds p)
-
-pub letter-none : (a : List ℕ) {k : Kind} (i : ℕ) → isLetter k ≡ false → Adds a (KindLetter k i) a
-letter-none a i n = adds-none a _ (λ q u. false≢true (sym n ∙ ap isLetter (u .letter)))
+pub letter-none : (a : List ℕ) (k : Kind) (i : ℕ) → ((x : ℕ) → fitsLetter k x ≡ false) → Adds a (KindLetter k i) a
+letter-none a k i n = adds-none a _ (λ q u. false≢true (sym (n (q / 128)) ∙ u .letter))
 
 pub special-put : {a b : List ℕ} {k : Kind} (i : ℕ) → specialKind k ≡ true → Put a (2 * i) b → Adds a (KindSpecial k i) b
 special-put i s p = adds-as (λ q e. record { entry = e; special = s }) (λ q u. u .entry) (put-adds p)

@@ -8,6 +8,7 @@ use mathlib.Core.Bool.{Bool, true, false}
 use lib.ListN.{length, getD, replicate}
 use Rattle.bits.specs.Bit.{bitAt}
 use Rattle.bits.specs.Runs.{Adds}
+use Rattle.event.specs.LetterSets.{holds}
 use Rattle.regex.specs.declared.Kind.{Kind}
 use Rattle.regex.specs.declared.Kind.the-variants.{Empty, Epsilon, Letter, Union, Intersection, Concatenation, Complement, Star}
 use Rattle.regex.specs.declared.Node.{Node}
@@ -101,16 +102,27 @@ pub record ClosedMoves (nodes : List Node) (lefts : List ℕ) (m : ℕ) (c : Lis
 
 -- ---- entries
 
--- q is the bit of the letter of node i, if its kind is a letter: bit 128 * c + 2 * i for the letter c
+-- a node of this kind fits the letter x: its kind is a letter, whose set has x
+abbrev pub fitsLetter : Kind → ℕ → Bool
+fitsLetter Empty x = false
+fitsLetter Epsilon x = false
+fitsLetter (Letter c) x = holds c x
+fitsLetter Union x = false
+fitsLetter Intersection x = false
+fitsLetter Concatenation x = false
+fitsLetter Complement x = false
+fitsLetter Star x = false
+
+-- q is the bit of a letter that node i fits by its kind: bit 128 * x + 2 * i for the letter x
 pub record KindLetter (k : Kind) (i q : ℕ) : Type 0 where
   pub entry : q % 128 ≡ 2 * i
-  pub letter : k ≡ Letter (q / 128)
+  pub letter : fitsLetter k (q / 128) ≡ true
 
--- q is the bit of the letter of one of the first m nodes
+-- q is the bit of a letter that one of the first m nodes fits
 pub record LetterEntry (nodes : List Node) (m q : ℕ) : Type 0 where
   pub small : q % 128 / 2 < m
   pub even : q % 2 ≡ 0
-  pub letter : kindAt nodes (q % 128 / 2) ≡ Letter (q / 128)
+  pub letter : fitsLetter (kindAt nodes (q % 128 / 2)) (q / 128) ≡ true
 
 -- q is the entry of node i, if its kind is special
 pub record KindSpecial (k : Kind) (i q : ℕ) : Type 0 where

@@ -42,7 +42,7 @@ pub fn closed_moves(nodes: [Node; 64], m: usize, lefts: [usize; 64], moves: &mut
     close(moves, 2 * m);
 }
 
-// Adds the entries of each letter's nodes: bit 128 * c + s for the entry s of a node with the letter c.
+// Adds the entries of each letter's nodes: bit 128 * c + s for the entry s of a node whose set has the letter c.
 pub fn letter_entries(nodes: [Node; 64], m: usize, entries: &mut [u64])
     requires { ⌜ (m ≤ 64) × (length (now entries) ≡ 512) ⌝ }
     ensures { λ _. ⌜ Adds (now (entries .entry)) (LetterEntry nodes m) (now (entries .exit)) ⌝ }

@@ -10,18 +10,18 @@ use lib.ListN.{length, getD, replicate}
 use Rattle.bits.specs.Bit.{bitAt}
 use Rattle.bits.specs.Runs.{Adds}
 use Rattle.bits.proofs.Laws.{zeros-bit}
+use Rattle.event.specs.declared.sets.LetterSet.{LetterSet}
 use Rattle.event.proofs.Tests.{T-of, of-T}
 use Rattle.regex.specs.declared.Kind.{Kind}
-use Rattle.regex.specs.declared.Kind.the-variants.{Empty, Epsilon, Letter, Union, Intersection, Concatenation, Complement, Star}
 use Rattle.regex.specs.declared.Node.{Node}
 use Rattle.regex.specs.Tree.{Tree, empty, epsilon, letter, union, intersection, concatenation, complement, star, below, isSpecial}
 use Rattle.moves.specs.Reached.{start, after}
-use Rattle.moves.specs.Moves.{kindAt, specialKind, KindMove, RecordMove, FreeMove}
+use Rattle.moves.specs.Moves.{kindAt, specialKind, KindMove, RecordMove, FreeMove, fitsLetter}
 use Rattle.table.proofs.LayoutLaws.{held-span}
 use Rattle.levels.specs.AutomatonParts.{letterPart, specialPart, firstPart}
 use Rattle.walk.specs.Automaton.{automatonOf, Step, LetterStep, SpanStep}
 use Rattle.work.specs.Span.{Obeys}
-use Rattle.work.specs.Walk.{entry, exit, Part, NodeMove, epsilon-through, letter-use, union-to-left, union-to-right, union-left-out}
+use Rattle.work.specs.Walk.{entry, exit, Part, Fits, NodeMove, epsilon-through, letter-use, union-to-left, union-to-right, union-left-out}
 use Rattle.work.specs.Walk.{union-right-out}
 use Rattle.work.specs.Walk.{concatenation-in, concatenation-over, concatenation-out, star-in, star-skip, star-again, star-out}
 use Rattle.work.specs.Walk.{intersection-span}
@@ -39,17 +39,6 @@ use Rattle.owners.proofs.PartLaws.{kindOf, part-at, Headed, headed, kin
 -- a run that began as zeros has only what was added
 pub added : {P : ℕ → Type 0} {b : List ℕ} (n q : ℕ) → Adds (replicate n 0) P b → bitAt b q ≡ true → P q
 added n q h e = ⊎-elim (λ (z : bitAt (replicate n 0) q ≡ true). absurd (false≢true (sym (zeros-bit n q) ∙ z))) (λ z. z) (h .only q e)
-
--- ---- a kind tells its letter
-letterOf : Kind → ℕ
-letterOf Empty = 0
-letterOf Epsilon = 0
-letterOf (Letter c) = suc c
-letterOf Union = 0
-letterOf Intersection = 0
-letterOf Concatenation = 0
-letterOf Complement = 0
-letterOf Star = 0
 
 module _ {t : Tree} {nodes : List Node} {m : ℕ} {lefts run w : List ℕ} {numbers : ℕ} (S : Setting t nodes m lefts run w numbers) where
   recorded : Recorded t nodes m
@@ -104,17 +93,16 @@ module _ {t : Tree} {nodes : List Node} {m : ℕ} {lefts run w : List ℕ} {numb
       (subst (λ (k : Kind). KindMove k (v .node) (getD lefts (v .node) 0) (128 * s + s′)) (kind-is recorded (v .node) (v .within))
       (v .move))))
 
-  -- a part whose kind is the letter of the next event moves over it
-  letter-of : (u : Tree) (x j c : ℕ) → kindOf u ≡ Letter c → j < length w → getD w j 0 ≡ c → NodeMove w u x (entry u x) j (exit u x) (suc j)
-  unfolding letterOf
-  letter-of (empty o) x j c e h g = absurd (omega (arith, ap letterOf e))
-  letter-of (epsilon o) x j c e h g = absurd (omega (arith, ap letterOf e))
-  letter-of (letter o b) x j c e h g = let d : getD w j 0 ≡ b = omega (arith, ap letterOf e, g) in letter-use h d
-  letter-of (union o a b) x j c e h g = absurd (omega (arith, ap letterOf e))
-  letter-of (intersection o a b) x j c e h g = absurd (omega (arith, ap letterOf e))
-  letter-of (concatenation o a b) x j c e h g = absurd (omega (arith, ap letterOf e))
-  letter-of (complement o a) x j c e h g = absurd (omega (arith, ap letterOf e))
-  letter-of (star o a) x j c e h g = absurd (omega (arith, ap letterOf e))
+  -- a part whose kind fits the next event moves over it
+  letter-of : (u : Tree) (x j : ℕ) → fitsLetter (kindOf u) (getD w j 0) ≡ true → j < length w → NodeMove w u x (entry u x) j (exit u x) (suc j)
+  letter-of (empty o) x j e h = absurd (false≢true e)
+  letter-of (epsilon o) x j e h = absurd (false≢true e)
+  letter-of (letter o c) x j e h = letter-use h (T-of _ e)
+  letter-of (union o a b) x j e h = absurd (false≢true e)
+  letter-of (intersection o a b) x j e h = absurd (false≢true e)
+  letter-of (concatenation o a b) x j e h = absurd (false≢true e)
+  letter-of (complement o a) x j e h = absurd (false≢true e)
+  letter-of (star o a) x j e h = absurd (false≢true e)
 
   -- a special part moves over a span that obeys it
   span-of : (u : Tree) (x j n : ℕ) → T (isSpecial u) → Obeys w u j n → NodeMove w u x (entry u x) j (exit u x) n
@@ -144,13 +132,13 @@ module _ {t : Tree} {nodes : List Node} {m : ℕ} {lefts run w : List ℕ} {numb
       let a : (128 * c + p % 128) % 128 ≡ p % 128 = omega arith in
       let b : (128 * c + p % 128) / 128 ≡ c = omega arith in
       let l : p % 128 / 2 < m = rw a at (v .small) in
-      let k : kindAt nodes (p % 128 / 2) ≡ Letter c = rw (a, b) at (v .letter) in
+      let k : fitsLetter (kindAt nodes (p % 128 / 2)) c ≡ true = rw (a, b) at (v .letter) in
       let ev = v .even in
       let e = f .exit in
       let h = at-record (p % 128 / 2) l in
       let odd : p % 128 % 2 ≡ 0 = omega arith in
       through h p q (p / 128) (suc (p / 128)) (omega arith) (omega arith) refl (omega arith)
-      (letter-of (partAt t (p % 128 / 2)) (h .first) (p / 128) c (sym (kind-is recorded (p % 128 / 2) l) ∙ k) (f .within) refl)
+      (letter-of (partAt t (p % 128 / 2)) (h .first) (p / 128) (rw (kind-is recorded (p % 128 / 2) l) at k) (f .within))
 
   -- the special node of an entry
   pub special-entry : (s : ℕ) → bitAt (specialPart run) s ≡ true → (s / 2 < m) × (s % 2 ≡ 0) × SpecialAt t (s / 2)
@@ -221,23 +209,24 @@ module _ {t : Tree} {nodes : List Node} {m : ℕ} {lefts run w : List ℕ} {numb
           span = rw (e, y, d, d′) g;
         }))
 
-    letter-step : (o c x j : ℕ) → Part t 0 (letter o c) x → j < length w → getD w j 0 ≡ c
+    letter-step : (o x j : ℕ) (c : LetterSet) → Part t 0 (letter o c) x → j < length w → Fits c (getD w j 0)
         → Stepping (128 * j + entry (letter o c) x) (128 * suc j + exit (letter o c) x)
-    letter-step o c x j p h g =
+    letter-step o x j c p h g =
         let z = part-within recorded p in
         let f = few in
+        let y = getD w j 0 in
         let e : (128 * j + entry (letter o c) x) % 128 ≡ 2 * (x + below (letter o c)) = omega arith in
         let d : (128 * j + entry (letter o c) x) / 128 ≡ j = omega arith in
-        let a : (128 * c + 2 * (x + below (letter o c))) % 128 / 2 ≡ x + below (letter o c) =
-        let b : (128 * c + 2 * (x + below (letter o c))) % 128 ≡ 2 * (x + below (letter o c)) = omega arith in rw b (omega arith) in
-        let b : (128 * c + 2 * (x + below (letter o c))) / 128 ≡ c = omega arith in
+        let a : (128 * y + 2 * (x + below (letter o c))) % 128 / 2 ≡ x + below (letter o c) =
+        let b : (128 * y + 2 * (x + below (letter o c))) % 128 ≡ 2 * (x + below (letter o c)) = omega arith in rw b (omega arith) in
+        let b : (128 * y + 2 * (x + below (letter o c))) / 128 ≡ y = omega arith in
         inr (inl (record {
           exit = omega arith;
           within = rw d h;
-          event = rw (d, e, g) (S .built .letter .new (128 * c + 2 * (x + below (letter o c))) (record {
+          event = rw (d, e) (S .built .letter .new (128 * y + 2 * (x + below (letter o c))) (record {
             small = rw a z;
             even = omega arith;
-            letter = rw (a, b) (part-kind recorded p);
+            letter = rw (a, b, part-kind recorded p) (of-T _ g);
           }));
         }))
 
@@ -245,7 +234,7 @@ module _ {t : Tree} {nodes : List Node} {m : ℕ} {lefts run w : List ℕ} {numb
     node-step (epsilon-through {o} {x} {j}) p l =
         let z = part-within recorded p in let f = few in
         free-step _ _ j p (omega arith) (omega arith) (omega arith)
-    node-step (letter-use {o} {c} {x} {j} h e) p l = letter-step o c x j p h e
+    node-step (letter-use {o} {x} {j} {c} h e) p l = letter-step o x j c p h e
     node-step (union-to-left {o} {x} {j} {a} {b}) p l =
         let z = part-within recorded p in let f = few in let g = S .left _ x p in
         free-step _ _ j p (omega arith) (omega arith) (inl (omega arith))

@@ -5,9 +5,11 @@ use mathlib.Core.List.{[], _∷_, _++_, append-nil, append-assoc, nil≢cons, co
 use mathlib.Core.Bool.{Bool, not, _&&_}
 use Prim.Native.Nat.{ℕ, zero, suc, _≤_}
 use native.Mathlib.Omega.{arith}
-use lib.Dec.{T, eqb, eqb→eq, eqb-refl, not-T, T-not}
+use lib.Dec.{T, not-T, T-not}
 use lib.ListN.{length, length-append}
 use Rattle.event.specs.Event.{isEvent, Word, Events}
+use Rattle.event.specs.LetterSets.{holds}
+use Rattle.event.specs.declared.sets.LetterSet.{LetterSet}
 use Rattle.event.proofs.Tests.{and-split, and-join, or-split, or-left, or-right}
 use Rattle.regex.specs.Tree.{Tree, empty, epsilon, letter, union, intersection, concatenation, complement, star}
 use Rattle.regex.specs.Lang.{Concat, Power, Lang}
@@ -84,11 +86,11 @@ isNil-eq : (w : Word) → T (isNil w) ↔ (w ≡ [])
 isNil-eq [] = (λ h. refl, λ e. tt)
 isNil-eq (x ∷ w) = (λ h. absurd h, λ e. absurd (cons≢nil e))
 
-isLetter-eq : (c : ℕ) (w : Word) → T (isLetter c w) ↔ (w ≡ c ∷ [])
-isLetter-eq c [] = (λ h. absurd h, λ e. absurd (nil≢cons e))
+isLetter-eq : (c : LetterSet) (w : Word) → T (isLetter c w) ↔ ((x : ℕ) × (w ≡ x ∷ []) × T (holds c x))
+isLetter-eq c [] = (λ h. absurd h, λ h. absurd (nil≢cons (h .1)))
 isLetter-eq c (x ∷ w) = (
-  λ h. let p = and-split (eqb x c) (isNil w) h in rw (eqb→eq x c (p .0), isNil-eq w .0 (p .1)),
-  λ e. and-join (eqb x c) (isNil w) (rw (head-eq-of-cons-eq e) (eqb-refl c)) (isNil-eq w .1 (tail-eq-of-cons-eq e)),
+  λ h. let p = and-split (holds c x) (isNil w) h in (x, ap (x ∷_) (isNil-eq w .0 (p .1)), p .0),
+  λ h. and-join (holds c x) (isNil w) (subst (λ (y : ℕ). T (holds c y)) (sym (head-eq-of-cons-eq (h .1))) (h .2)) (isNil-eq w .1 (tail-eq-of-cons-eq (h .1))),
 )
 
 areEvents-eq : (w : Word) → T (areEvents w) ↔ Events w

@@ -10,15 +10,19 @@ use lib.Seq.{drop-append-seam}
 use lib.Dec.{eqb, ltb}
 use borrow.Author.Tests.{lt-ltb}
 use Rattle.event.proofs.EventLaws.{event-not, reserved-foreign}
+use Rattle.event.specs.LetterSets.{single, every, lettersOf}
 use Rattle.regex.specs.Bytes.{isStart}
+use Rattle.regex.specs.Leaves.{leaf, leafAt}
+use Rattle.regex.specs.declared.Leaf.{Leaf}
 use Rattle.regex.specs.Tree.{Tree, records, nodeRecord}
 use Rattle.regex.specs.Grammar.{Level, Alt, Conj, Seq, Pre, Post, Atom, Reads, alt-conj, alt-bar, conj-seq, conj-amp, seq-pre, seq-more}
-use Rattle.regex.specs.Grammar.{pre-post, pre-bang, post-atom, post-star, atom-letter, atom-empty, atom-epsilon, atom-group}
+use Rattle.regex.specs.Grammar.{pre-post, pre-bang, post-atom, post-star, atom-letter, atom-any, atom-set, atom-empty, atom-epsilon, atom-group}
 use Rattle.regex.specs.Parse as parser
-use Rattle.regex.specs.Parse.{alt, altRest, conj, conjRest, seq, seqRest, pre, post, postRest, atom, parse, measure, leafKind}
+use Rattle.regex.specs.Parse.{alt, altRest, conj, conjRest, seq, seqRest, pre, post, postRest, atom, parse, measure}
 use Rattle.regex.specs.declared.Kind.{Kind}
-use Rattle.regex.specs.declared.Kind.the-variants.{Union, Intersection, Concatenation, Complement, Star}
+use Rattle.regex.specs.declared.Kind.the-variants.{Empty, Epsilon, Letter, Union, Intersection, Concatenation, Complement, Star}
 use Rattle.regex.specs.declared.Node.{Node}
+use Rattle.regex.proofs.LeafLaws.{letter-leaf-at, any-leaf-at, set-leaf-at, empty-leaf-at, epsilon-leaf-at}
 use Rattle.regex.proofs.Texts.{begins, start-not, start-some}
 
 module _ {A : Type 0} (push : A → ℕ → Kind → A) where
@@ -119,6 +123,8 @@ module _ {A : Type 0} (push : A → ℕ → Kind → A) where
   -- no Post begins with a `!`
   unbanged-atom : {o : ℕ} {u : List ℕ} {t : Tree} → Reads Atom o u t → (x : List ℕ) → eqb (getD (u ++ x) 0 0) 33 ≡ false
   unbanged-atom (atom-letter {b = b} h) x = event-not b 33 h tt
+  unbanged-atom atom-any x = refl
+  unbanged-atom (atom-set u h e) x = refl
   unbanged-atom atom-empty x = refl
   unbanged-atom atom-epsilon x = refl
   unbanged-atom (atom-group r) x = refl
@@ -136,11 +142,12 @@ module _ {A : Type 0} (push : A → ℕ → Kind → A) where
   unfolding pushes
   one a x o k = sym (pushes-append a x (nodeRecord o k))
 
-  leaf-read : (b : ℕ) (x : List ℕ) (a : A) (o f : ℕ) → eqb b 40 ≡ false → measure atom (b ∷ x) ≤ f
-      → parse push f atom (b ∷ x) (a, o) ≡ (push a o (leafKind b), o + 1)
+  leaf-read : (b : ℕ) (x : List ℕ) (a : A) (o f : ℕ) (l : Leaf) → eqb b 40 ≡ false → leafAt (b ∷ x) ≡ l → measure atom (b ∷ x) ≤ f
+      → parse push f atom (b ∷ x) (a, o) ≡ (push a o (l .kind), o + l .width)
   unfolding parse
-  leaf-read b x a o zero h n = absurd (omega arith)
-  leaf-read b x a o (suc f) h n = rw (h, lt-ltb 0 (suc (length x)) (omega arith))
+  leaf-read b x a o zero l h e n = absurd (omega arith)
+  leaf-read b x a o (suc f) l h e n =
+      rw (h, lt-ltb 0 (suc (length x)) (omega arith)) (ap (λ (y : Leaf). (push a o (y .kind), o + y .width)) e)
 
   bang-read : (u x : List ℕ) (a b : A) (o f : ℕ) → measure pre (33 ∷ u ++ x) ≤ f
       → ((g : ℕ) → measure pre (u ++ x) ≤ g → parse push g pre (u ++ x) (a, o + 1) ≡ (b, o + 1 + length u))
@@ -253,10 +260,13 @@ module _ {A : Type 0} (push : A → ℕ → Kind → A) where
       (star-read x (pushes a (records t), o + length u) (parse push f post ((u ++ 42 ∷ []) ++ x) (a, o))
       (rw s (parses r (42 ∷ x) a tt f (rw s at n))))
   parses {o = o} (atom-letter {b = b} h) x a free f n =
-      leaf-read b x a o f (event-not b 40 h tt) n ∙ ap₂ (λ (c : A) (m : ℕ). (c, m))
-      (simp (event-not b 48 h tt, event-not b 49 h tt)) (omega arith)
-  parses {o = o} atom-empty x a free f n = leaf-read 48 x a o f refl n ∙ ap₂ (λ (c : A) (m : ℕ). (c, m)) refl (omega arith)
-  parses {o = o} atom-epsilon x a free f n = leaf-read 49 x a o f refl n ∙ ap₂ (λ (c : A) (m : ℕ). (c, m)) refl (omega arith)
+      leaf-read b x a o f (leaf 1 (Letter (single b))) (event-not b 40 h tt) (letter-leaf-at b x h) n
+  parses {o = o} atom-any x a free f n = leaf-read 46 x a o f (leaf 1 (Letter every)) refl (any-leaf-at x) n
+  parses {o = o} (atom-set u h e) x a free f n =
+      leaf-read 91 ((u ++ 93 ∷ []) ++ x) a o f (leaf (length u + 2) (Letter (lettersOf u))) refl (set-leaf-at u x e) n
+      ∙ ap₂ (λ (c : A) (m : ℕ). (c, m)) refl (omega (arith, length-append u (93 ∷ [])))
+  parses {o = o} atom-empty x a free f n = leaf-read 48 x a o f (leaf 1 Empty) refl (empty-leaf-at x) n
+  parses {o = o} atom-epsilon x a free f n = leaf-read 49 x a o f (leaf 1 Epsilon) refl (epsilon-leaf-at x) n
   parses {o = o} (atom-group {u = u} {t = t} r) x a free f n =
       let s : (u ++ 41 ∷ []) ++ x ≡ u ++ 41 ∷ x = append-assoc u (41 ∷ []) x in
       group-read ((u ++ 41 ∷ []) ++ x) u x a (pushes a (records t)) o f s n

@@ -1,13 +1,16 @@
 -- What the scan has passed is the beginning of a sentence:
 -- a state of the scan is kept with the parts of the grammar that stand open there. Assumes nothing.
-use Prim.Native.Nat.{ℕ, zero, suc, _+_}
+use Prim.Native.Nat.{ℕ, zero, suc, _+_, _≤_}
 use native.Mathlib.Omega.{arith}
 use mathlib.Core.Path.{_≡_, refl, sym, ap, subst, subst₂, _∙_}
 use mathlib.Core.List.{List, [], _∷_, _++_, append-assoc, append-nil}
 use lib.ListN.{length, length-append}
-use Rattle.regex.specs.Tree.{Tree, empty}
+use lib.Dec.{T}
+use Rattle.event.specs.Event.{isEvent, Events}
+use Rattle.event.specs.LetterSets.{lettersOf}
+use Rattle.regex.specs.Tree.{Tree, empty, letter}
 use Rattle.regex.specs.Grammar.{Level, Alt, Conj, Seq, Pre, Post, Atom, Reads, alt-conj, alt-bar, conj-seq, conj-amp, seq-pre, seq-more}
-use Rattle.regex.specs.Grammar.{pre-post, pre-bang, post-atom, post-star, atom-empty, atom-group, Sentence, Viable}
+use Rattle.regex.specs.Grammar.{pre-post, pre-bang, post-atom, post-star, atom-set, atom-empty, atom-group, Sentence, Viable}
 
 -- the same text, at an offset and as a list that are written another way
 moved : {l : Level} {o p : ℕ} {u v : List ℕ} {t : Tree} → o ≡ p → u ≡ v → Reads l o u t → Reads l p v t
@@ -102,15 +105,23 @@ pub record Ended (d : ℕ) (p : List ℕ) : Type 0 where
   pub before : BeforePre (length outer) left
   pub reads : Reads Post (length outer + length left) text tree
 
+-- the scan has passed letters of a bracket that stands where an operand is expected
+pub record Inside (d : ℕ) (p : List ℕ) : Type 0 where
+  pub before : List ℕ
+  pub letters : List ℕ
+  pub whole : p ≡ before ++ 91 ∷ letters
+  pub events : Events letters
+  pub expects : Expects d before
+
 -- where an operand is expected
-pub atom-next : (b d : ℕ) (p : List ℕ) (t : ℕ → Tree) → ((o : ℕ) → Reads Atom o (b ∷ []) (t o)) → Expects d p → Ended d (p ++ b ∷ [])
-atom-next b d p t a e =
+pub atom-next : (u : List ℕ) (d : ℕ) (p : List ℕ) (t : ℕ → Tree) → ((o : ℕ) → Reads Atom o u (t o)) → Expects d p → Ended d (p ++ u)
+atom-next u d p t a e =
     record {
       outer = e .outer;
       left = e .left;
-      text = b ∷ [];
+      text = u;
       tree = t (length (e .outer) + length (e .left));
-      whole = ap (λ (s : List ℕ). s ++ b ∷ []) (e .whole) ∙ append-assoc (e .outer) (e .left) (b ∷ []);
+      whole = ap (λ (s : List ℕ). s ++ u) (e .whole) ∙ append-assoc (e .outer) (e .left) u;
       open' = e .open';
       before = e .before;
       reads = post-atom (a (length (e .outer) + length (e .left)));
@@ -135,6 +146,32 @@ open-next d p e =
       open' = one (e .open') (e .before);
       before = no-more (no-amp start);
     }
+
+-- inside brackets
+pub bracket-next : (d : ℕ) (p : List ℕ) → Expects d p → Inside d (p ++ 91 ∷ [])
+bracket-next d p e = record { before = p; letters = []; whole = refl; events = tt; expects = e }
+
+events-append : (u v : List ℕ) → Events u → Events v → Events (u ++ v)
+events-append [] v p q = q
+events-append (b ∷ u) v p q = (p .0, events-append u v (p .1) q)
+
+pub letter-next : (b d : ℕ) (p : List ℕ) → T (isEvent b) → Inside d p → (i : Inside d (p ++ b ∷ [])) × (1 ≤ length (i .letters))
+letter-next b d p h e = (
+  record {
+    before = e .before;
+    letters = e .letters ++ b ∷ [];
+    whole = ap (λ (s : List ℕ). s ++ b ∷ []) (e .whole) ∙ append-assoc (e .before) (91 ∷ e .letters) (b ∷ []);
+    events = events-append (e .letters) (b ∷ []) (e .events) (h, tt);
+    expects = e .expects;
+  },
+  omega (arith, length-append (e .letters) (b ∷ [])),
+)
+
+pub set-next : (d : ℕ) (p : List ℕ) (e : Inside d p) → 1 ≤ length (e .letters) → Ended d (p ++ 93 ∷ [])
+set-next d p e h =
+    let u = 91 ∷ e .letters ++ 93 ∷ [] in
+    subst (Ended d) (sym (ap (λ (s : List ℕ). s ++ 93 ∷ []) (e .whole) ∙ append-assoc (e .before) (91 ∷ e .letters) (93 ∷ [])))
+    (atom-next u d (e .before) (λ o. letter o (lettersOf (e .letters))) (λ o. atom-set (e .letters) h (e .events)) (e .expects))
 
 -- after an operand
 pub star-next : (d : ℕ) (p : List ℕ) → Ended d p → Ended d (p ++ 42 ∷ [])
@@ -227,4 +264,14 @@ ended-viable zero p e = let s = ended-sentence p e in ([], (s .0, moved refl (sy
 ended-viable (suc d) p e = shorter p (41 ∷ []) (ended-viable d (p ++ 41 ∷ []) (close-next d p e))
 
 pub expects-viable : (d : ℕ) (p : List ℕ) → Expects d p → Viable p
-expects-viable d p e = shorter p (48 ∷ []) (ended-viable d (p ++ 48 ∷ []) (atom-next 48 d p empty (λ o. atom-empty) e))
+expects-viable d p e = shorter p (48 ∷ []) (ended-viable d (p ++ 48 ∷ []) (atom-next (48 ∷ []) d p empty (λ o. atom-empty) e))
+
+-- a bracket can be closed, after a letter more
+pub letters-viable : (d : ℕ) (p : List ℕ) (e : Inside d p) → 1 ≤ length (e .letters) → Viable p
+letters-viable d p e h = shorter p (93 ∷ []) (ended-viable d (p ++ 93 ∷ []) (set-next d p e h))
+
+pub opened-viable : (d : ℕ) (p : List ℕ) → Inside d p → Viable p
+unfolding isEvent
+opened-viable d p e =
+    let i = letter-next 97 d p tt e in
+    shorter p (97 ∷ []) (letters-viable d (p ++ 97 ∷ []) (i .0) (i .1))

@@ -13,13 +13,13 @@ use Rattle.event.proofs.EventLaws.{event-not, reserved-foreign}
 use Rattle.regex.specs.Bytes.{isLeaf, isStart}
 use Rattle.regex.specs.Tree.{Tree}
 use Rattle.regex.specs.Grammar.{Level, Reads, alt-conj, alt-bar, conj-seq, conj-amp, seq-pre, seq-more, pre-post, pre-bang, post-atom, post-star}
-use Rattle.regex.specs.Grammar.{atom-letter, atom-empty, atom-epsilon, atom-group}
+use Rattle.regex.specs.Grammar.{atom-letter, atom-any, atom-set, atom-empty, atom-epsilon, atom-group}
 
 pub letter-leaf : (b : ℕ) → T (isEvent b) → isLeaf b ≡ true
-letter-leaf b h = simp (event-not b 48 h tt, event-not b 49 h tt, of-T (isEvent b) h)
+letter-leaf b h = simp (event-not b 48 h tt, event-not b 49 h tt, event-not b 46 h tt, of-T (isEvent b) h)
 
 letter-start : (b : ℕ) → T (isEvent b) → isStart b ≡ true
-letter-start b h = simp (event-not b 33 h tt, event-not b 40 h tt, letter-leaf b h)
+letter-start b h = simp (event-not b 33 h tt, event-not b 40 h tt, event-not b 91 h tt, letter-leaf b h)
 
 -- a text that is read begins with a byte that an operand can begin with
 pub begins : {l : Level} {o : ℕ} {u : List ℕ} {t : Tree} → Reads l o u t → (rest : List ℕ) → isStart (getD (u ++ rest) 0 0) ≡ true
@@ -34,6 +34,8 @@ begins (pre-bang r) x = refl
 begins (post-atom r) x = begins r x
 begins (post-star {u = u} r) x = rw (append-assoc u (42 ∷ []) x) (begins r (42 ∷ x))
 begins (atom-letter {b = b} h) x = letter-start b h
+begins atom-any x = refl
+begins (atom-set u h e) x = refl
 begins atom-empty x = refl
 begins atom-epsilon x = refl
 begins (atom-group r) x = refl

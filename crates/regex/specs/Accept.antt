@@ -2,19 +2,20 @@
 use mathlib.Core.List.{[], _∷_}
 use mathlib.Core.Bool.{Bool, true, false, not, _&&_, _||_}
 use Prim.Native.Nat.{ℕ, zero, suc}
-use lib.Dec.{eqb}
 use lib.ListN.{length}
 use Rattle.event.specs.Event.{isEvent, Word}
+use Rattle.event.specs.LetterSets.{holds}
+use Rattle.event.specs.declared.sets.LetterSet.{LetterSet}
 use Rattle.regex.specs.Tree.{Tree, empty, epsilon, letter, union, intersection, concatenation, complement, star}
 
--- the word is empty; is one letter; has only events
+-- the word is empty; is one letter of a set; has only events
 abbrev pub isNil : Word → Bool
 isNil [] = true
 isNil (x ∷ w) = false
 
-abbrev pub isLetter : ℕ → Word → Bool
+abbrev pub isLetter : LetterSet → Word → Bool
 isLetter c [] = false
-isLetter c (x ∷ w) = eqb x c && isNil w
+isLetter c (x ∷ w) = holds c x && isNil w
 
 abbrev pub areEvents : Word → Bool
 areEvents [] = true

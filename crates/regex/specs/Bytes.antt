@@ -4,10 +4,10 @@ use mathlib.Core.Bool.{Bool, _||_}
 use lib.Dec.{eqb}
 use Rattle.event.specs.Event.{isEvent}
 
--- `0`, `1` or a letter
+-- a leaf of one byte: `0`, `1`, `.` or a letter
 abbrev pub isLeaf : ℕ → Bool
-isLeaf b = eqb b 48 || eqb b 49 || isEvent b
+isLeaf b = eqb b 48 || eqb b 49 || eqb b 46 || isEvent b
 
--- one of those, `!` or `(`
+-- one of those, `!`, `(` or `[`
 abbrev pub isStart : ℕ → Bool
-isStart b = eqb b 33 || eqb b 40 || isLeaf b
+isStart b = eqb b 33 || eqb b 40 || eqb b 91 || isLeaf b

@@ -3,7 +3,8 @@ use Prim.Native.Nat.{ℕ, _+_, _≤_, _<_}
 use mathlib.Core.List.{List, [], _∷_, _++_}
 use lib.Dec.{T}
 use lib.ListN.{length, take}
-use Rattle.event.specs.Event.{isEvent}
+use Rattle.event.specs.Event.{isEvent, Events}
+use Rattle.event.specs.LetterSets.{single, every, lettersOf}
 use Rattle.regex.specs.Tree.{Tree, empty, epsilon, letter, union, intersection, concatenation, complement, star}
 
 -- 01: "From loosest to tightest: `|`, then `&`, then concatenation, then `!` in front, then `*` behind."
@@ -32,8 +33,12 @@ pub data Reads : Level → ℕ → List ℕ → Tree → Type 0 where
   -- Post = Atom, Post "*"
   post-atom : {o : ℕ} {u : List ℕ} {t : Tree} → Reads Atom o u t → Reads Post o u t
   post-star : {o : ℕ} {u : List ℕ} {t : Tree} → Reads Post o u t → Reads Post o (u ++ 42 ∷ []) (star (o + length u) t)
-  -- Atom = a letter, "0", "1", "(" Alt ")"
-  atom-letter : {o b : ℕ} → T (isEvent b) → Reads Atom o (b ∷ []) (letter o b)
+  -- Atom = a letter, ".", "[" letters "]", "0", "1", "(" Alt ")"
+  atom-letter : {o b : ℕ} → T (isEvent b) → Reads Atom o (b ∷ []) (letter o (single b))
+  -- 02 e): "`.` one node for all 52"
+  atom-any : {o : ℕ} → Reads Atom o (46 ∷ []) (letter o every)
+  -- 02 e): "`[abc]` shall be one node that fits any of the letters inside, one letter at least"; "A set's offset is its first byte's."
+  atom-set : {o : ℕ} (u : List ℕ) → 1 ≤ length u → Events u → Reads Atom o (91 ∷ u ++ 93 ∷ []) (letter o (lettersOf u))
   atom-empty : {o : ℕ} → Reads Atom o (48 ∷ []) (empty o)
   atom-epsilon : {o : ℕ} → Reads Atom o (49 ∷ []) (epsilon o)
   atom-group : {o : ℕ} {u : List ℕ} {t : Tree} → Reads Alt (o + 1) u t → Reads Atom o (40 ∷ u ++ 41 ∷ []) t

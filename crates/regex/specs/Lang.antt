@@ -3,7 +3,9 @@ use mathlib.Core.Path.{_≡_}
 use mathlib.Core.Logic.{_⊎_}
 use mathlib.Core.List.{[], _∷_, _++_}
 use Prim.Native.Nat.{ℕ, zero, suc}
+use lib.Dec.{T}
 use Rattle.event.specs.Event.{Word, Events}
+use Rattle.event.specs.LetterSets.{holds}
 use Rattle.regex.specs.Tree.{Tree, empty, epsilon, letter, union, intersection, concatenation, complement, star}
 
 -- L(r₁ · r₂) = {w₁ · w₂ : w₁ ∈ L(r₁) and w₂ ∈ L(r₂)}
@@ -17,11 +19,12 @@ Power L (suc i) w = Concat (Power L i) L w
 
 -- L(∅) = ∅, L(ε) = {ε}, L(σ) = {σ}; L(r₁ ∨ r₂) = L(r₁) ∪ L(r₂), L(r₁ ∧ r₂) = L(r₁) ∩ L(r₂), L(¬r₁) = Σ* \ L(r₁),
 -- L(r₁ · r₂) as above, L(r₁*) = ⋃ r₁ⁱ over i ≥ 0.
+-- 02 e): "section 2.1 takes a set as the union of its letters": L(c) = ⋃ {σ} over the letters σ of the set c.
 -- 02 a) fixes Σ: "complement is taken against all words over the 52".
 abbrev pub Lang : Tree → Word → Type 0
 Lang (empty o) w = ⊥
 Lang (epsilon o) w = w ≡ []
-Lang (letter o c) w = w ≡ c ∷ []
+Lang (letter o c) w = (x : ℕ) × (w ≡ x ∷ []) × T (holds c x)
 Lang (union o a b) w = Lang a w ⊎ Lang b w
 Lang (intersection o a b) w = Lang a w × Lang b w
 Lang (concatenation o a b) w = Concat (Lang a) (Lang b) w

@@ -6,16 +6,13 @@ use mathlib.Core.Bool.{cond}
 use lib.ListN.{length, getD, drop}
 use lib.Dec.{ltb, eqb}
 use Rattle.regex.specs.Bytes.{isStart}
+use Rattle.regex.specs.Leaves.{leafAt}
 use Rattle.regex.specs.declared.Kind.{Kind}
-use Rattle.regex.specs.declared.Kind.the-variants.{Empty, Epsilon, Letter, Union, Intersection, Concatenation, Complement, Star}
+use Rattle.regex.specs.declared.Kind.the-variants.{Union, Intersection, Concatenation, Complement, Star}
 
 -- a level of the reader: one for each level of the grammar, and one for each loop over what may follow there
 pub data Call : Type 0 where
   alt altRest conj conjRest seq seqRest pre post postRest atom : Call
-
--- the leaf that a byte is
-abbrev pub leafKind : ℕ → Kind
-leafKind b = cond (eqb b 48) Empty (cond (eqb b 49) Epsilon (Letter b))
 
 -- a depth of recursion that suffices for a level on a text: eight for each byte, and a few by the level
 abbrev pub rank : Call → ℕ
@@ -63,7 +60,7 @@ module _ {A : Type 0} (push : A → ℕ → Kind → A) where
   body rec atom s q =
       let p = rec alt (drop 1 s) (q .0, q .1 + 1) in
       let r = cond (ltb (p .1 - q .1) (length s)) (p .0, p .1 + 1) p in
-      let t = cond (ltb 0 (length s)) (push (q .0) (q .1) (leafKind (getD s 0 0)), q .1 + 1) q in
+      let t = cond (ltb 0 (length s)) (push (q .0) (q .1) (leafAt s .kind), q .1 + leafAt s .width) q in
       cond (eqb (getD s 0 0) 40) r t
 
   unfoldable pub parse : ℕ → Call → List ℕ → A × ℕ → A × ℕ

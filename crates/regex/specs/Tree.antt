@@ -2,6 +2,7 @@
 use Prim.Native.Nat.{ℕ, suc, _+_}
 use mathlib.Core.Bool.{Bool, true, false}
 use mathlib.Core.List.{List, [], _∷_, _++_}
+use Rattle.event.specs.declared.sets.LetterSet.{LetterSet}
 use Rattle.regex.specs.declared.Kind.{Kind}
 use Rattle.regex.specs.declared.Kind.the-variants.{Empty, Epsilon, Letter, Union, Intersection, Concatenation, Complement, Star}
 use Rattle.regex.specs.declared.Node.{Node}
@@ -11,7 +12,7 @@ use Rattle.regex.specs.declared.Node.{Node}
 pub data Tree : Type 0 where
   empty : ℕ → Tree  -- `0`, no word
   epsilon : ℕ → Tree  -- `1`, the empty word
-  letter : ℕ → ℕ → Tree  -- the letter follows the offset
+  letter : ℕ → LetterSet → Tree  -- a letter or a set of letters: the set follows the offset
   union : ℕ → Tree → Tree → Tree  -- `|`
   intersection : ℕ → Tree → Tree → Tree  -- `&`
   concatenation : ℕ → Tree → Tree → Tree
@@ -66,7 +67,8 @@ specials (concatenation o a b) = specials a + specials b
 specials (complement o a) = suc (specials a)
 specials (star o a) = specials a
 
--- 01: "Each node record holds its byte offset and its kind, and a letter's kind carries the letter"
+-- 01: "Each node record holds its byte offset and its kind"; 02 e): "The letter's kind in a node record holds a set of letters from now on,
+-- with a single letter as a set of one."
 abbrev pub nodeRecord : ℕ → Kind → List Node
 nodeRecord o k = record { offset = o; kind = k } ∷ []
 

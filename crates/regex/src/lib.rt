@@ -1,12 +1,14 @@
-// Regular expressions: the records of their nodes, and the states of the scan over a rule text, whose theory stands here too.
+// Regular expressions: the records of their nodes, the leaf at the front of a rule text, and the states of the scan over a rule text, whose
+// theory stands here too.
+use event::sets::LetterSet;
 ghost use mathlib.Core.Path.{_≡_};
 ghost use Rattle.regex.specs.KindNumber.{kindNumber};
 
-// What a node is: `0` is empty (no word), `1` is epsilon (the empty word), and a letter's kind carries the letter.
+// What a node is: `0` is empty (no word), `1` is epsilon (the empty word), and a letter's kind carries a set of letters, any of which it fits.
 pub enum Kind {
     Empty,
     Epsilon,
-    Letter(u8),
+    Letter(LetterSet),
     Union,
     Intersection,
     Concatenation,
@@ -20,7 +22,12 @@ pub struct Node {
     pub kind: Kind,
 }
 
-// The number of a kind: a letter's is its byte.
+// The number of the set without letters, from which those of all sets count on; and how many sets there are.
+const FIRST_SET: u64 = 9223372036854775808;
+
+pub const SET_COUNT: u64 = 4503599627370496;
+
+// The number of a kind: a set's is 2 to the power 63 and its bits.
 pub fn kind_number(kind: Kind) -> u64
     ensures { λ r. ⌜ r ≡ kindNumber kind ⌝ }
 {
@@ -32,14 +39,28 @@ pub fn kind_number(kind: Kind) -> u64
         Kind::Concatenation => 4,
         Kind::Complement => 5,
         Kind::Star => 6,
-        Kind::Letter(letter) => letter as u64,
+        Kind::Letter(set) => FIRST_SET + set.bits % SET_COUNT,
     }
 }
 
-// How far a scan has come: the open parentheses, whether an operand has just ended, and the nodes and special nodes so far.
+// The leaf at the front of a text: how many bytes it has, and its kind.
+pub struct Leaf {
+    pub width: usize,
+    pub kind: Kind,
+}
+
+// Where a scan stands: an operand is expected, or has just ended; a bracket has just been opened, or has letters and may be closed.
+pub enum Stage {
+    Operand,
+    Ended,
+    Opened,
+    Letters,
+}
+
+// How far a scan has come: the open parentheses, where it stands, and the nodes and special nodes so far.
 pub struct ScanState {
     pub depth: usize,
-    pub ended: bool,
+    pub stage: Stage,
     pub nodes: usize,
     pub specials: usize,
 }

@@ -5,10 +5,11 @@ use native.Mathlib.Omega.{arith}
 use mathlib.Core.Path.{_≡_, refl, sym, ap, ap₂, subst, subst₂, _∙_}
 use mathlib.Core.List.{List, [], _∷_, _++_, append-assoc, append-nil}
 use lib.ListN.{length, length-append}
+use Rattle.event.specs.Event.{Events}
 use Rattle.event.proofs.EventLaws.{event-apart}
 use Rattle.regex.specs.Tree.{Tree, epsilon, union, intersection, concatenation, star}
 use Rattle.regex.specs.Grammar.{Level, Atom, Reads, alt-conj, alt-bar, conj-seq, conj-amp, seq-pre, seq-more}
-use Rattle.regex.specs.Grammar.{pre-post, pre-bang, post-atom, post-star, atom-letter, atom-empty, atom-epsilon, atom-group}
+use Rattle.regex.specs.Grammar.{pre-post, pre-bang, post-atom, post-star, atom-letter, atom-any, atom-set, atom-empty, atom-epsilon, atom-group}
 use Rattle.replacement.specs.Graft.{graft, shift}
 
 -- the same reading, at an offset, of a text and as a tree that are written another way
@@ -90,6 +91,12 @@ module _ (f : ℕ → ℕ) (g : ℕ → Tree) where
       let k = kept p c [] refl n in
       sym (k .whole ∙ ap (λ (s : List ℕ). c ∷ s) (nothing (k .after) refl))
 
+  -- letters stay
+  letters-stay : {j : ℕ} {u w : List ℕ} → Put j u w → Events u → u ≡ w
+  letters-stay done h = refl
+  letters-stay (same {b = b} e i p) h = ap (λ (s : List ℕ). b ∷ s) (letters-stay p (h .1))
+  letters-stay (other r e p) h = absurd (event-apart 49 49 (h .0) tt refl)
+
   one : {j : ℕ} {y w : List ℕ} → Put j y w → y ≡ 49 ∷ [] → Reads Atom (f j) w (g j)
   one done e = absurd (let z : _≡_ {A = ℕ} 0 1 = cc in omega arith)
   one {j} (same {b = b} {w = w} h i p) e =
@@ -134,6 +141,14 @@ module _ (f : ℕ → ℕ) (g : ℕ → Tree) where
       (post-star (carry r (c .first)))
   carry (atom-letter {b = b} h) p =
       moved refl (alone b p (λ e. event-apart b 49 h tt e)) refl (atom-letter h)
+  carry atom-any p = moved refl (alone 46 p (λ e. omega arith)) refl atom-any
+  carry (atom-set u h e) p =
+      let k = kept p 91 (u ++ 93 ∷ []) refl (λ e. omega arith) in
+      let c = cut (k .after) u (93 ∷ []) refl in
+      moved refl
+      (ap₂ (λ (x y : List ℕ). 91 ∷ (x ++ y)) (letters-stay (c .first) e) (alone 93 (c .second) (λ e. omega arith))
+      ∙ sym (k .whole ∙ ap (λ (s : List ℕ). 91 ∷ s) (c .whole)))
+      refl (atom-set u h e)
   carry atom-empty p = moved refl (alone 48 p (λ e. omega arith)) refl atom-empty
   carry atom-epsilon p = one p refl
   carry (atom-group {u = u} r) p =

@@ -3,15 +3,17 @@
 use Prim.Native.Nat.{ℕ, zero, suc, _+_, _*_, _≤_, _<_}
 use native.Mathlib.Omega.{arith}
 use native.Mathlib.Nat.{mul-le-mul-left, mul-add}
-use mathlib.Core.Path.{_≡_, sym, subst}
+use mathlib.Core.Path.{_≡_, refl, sym, subst}
 use mathlib.Core.Bool.{cond}
 use mathlib.Core.List.{List, [], _∷_, _++_}
 use lib.Dec.{eqb}
 use lib.ListN.{length, length-append}
+use Rattle.event.specs.Event.{Events}
+use Rattle.event.proofs.EventLaws.{event-not}
 use Rattle.event.proofs.Tests.{choose}
 use Rattle.regex.specs.Tree.{Tree, empty, epsilon, letter, union, intersection, concatenation, complement, star, size, specials}
 use Rattle.regex.specs.Grammar.{Level, Alt, Reads, alt-conj, alt-bar, conj-seq, conj-amp, seq-pre, seq-more, pre-post, pre-bang, post-atom}
-use Rattle.regex.specs.Grammar.{post-star, atom-letter, atom-empty, atom-epsilon, atom-group}
+use Rattle.regex.specs.Grammar.{post-star, atom-letter, atom-any, atom-set, atom-empty, atom-epsilon, atom-group}
 use Rattle.replacement.specs.Replaced.{angled}
 use Rattle.replacement.specs.Pieces.{Piece, own, named, piecesFrom, pieces, shapeOf}
 use Rattle.replacement.specs.Graft.{total, moreNodes}
@@ -34,6 +36,11 @@ unfolding ones
 ones-append [] v = omega arith
 ones-append (b ∷ u) v = omega (arith, ones-append u v)
 
+ones-letters : (u : List ℕ) → Events u → ones u ≡ 0
+unfolding ones one
+ones-letters [] h = refl
+ones-letters (b ∷ u) h = rw (event-not b 49 (h .0) tt) (omega (arith, ones-letters u (h .1)))
+
 ones-nodes : {l : Level} {o : ℕ} {u : List ℕ} {t : Tree} → Reads l o u t → ones u ≤ size t
 unfolding ones one
 ones-nodes (alt-conj r) = ones-nodes r
@@ -47,6 +54,8 @@ ones-nodes (pre-bang r) = omega (arith, ones-nodes r)
 ones-nodes (post-atom r) = ones-nodes r
 ones-nodes (post-star {u = u} r) = omega (arith, ones-nodes r, ones-append u (42 ∷ []))
 ones-nodes (atom-letter {b = b} h) = omega (arith, one-at-most b)
+ones-nodes atom-any = omega arith
+ones-nodes (atom-set u h e) = omega (arith, ones-letters u e, ones-append u (93 ∷ []))
 ones-nodes atom-empty = omega arith
 ones-nodes atom-epsilon = omega arith
 ones-nodes (atom-group {u = u} r) = omega (arith, ones-nodes r, ones-append u (41 ∷ []))
@@ -64,6 +73,8 @@ nodes-most (pre-bang r) = omega (arith, nodes-most r)
 nodes-most (post-atom r) = nodes-most r
 nodes-most (post-star {u = u} r) = omega (arith, nodes-most r, length-append u (42 ∷ []))
 nodes-most (atom-letter h) = omega arith
+nodes-most atom-any = omega arith
+nodes-most (atom-set u h e) = omega (arith, length-append u (93 ∷ []))
 nodes-most atom-empty = omega arith
 nodes-most atom-epsilon = omega arith
 nodes-most (atom-group {u = u} r) = omega (arith, nodes-most r, length-append u (41 ∷ []))

@@ -6,20 +6,21 @@ use mathlib.Core.Bool.{Bool, true, false, cond}
 use mathlib.Core.List.{List, [], _∷_, _++_}
 use lib.Dec.{T, eqb}
 use lib.ListN.{length}
-use borrow.Author.Tests.{ne-eqb}
-use Rattle.event.specs.Event.{isEvent}
-use Rattle.event.proofs.EventLaws.{event-not}
+use Rattle.event.specs.Event.{isEvent, Events}
+use Rattle.event.proofs.EventLaws.{event-not, reserved-foreign}
 use Rattle.event.proofs.Tests.{neither, T-of}
 use Rattle.regex.specs.Bytes.{isLeaf}
 use Rattle.regex.specs.Tree.{Tree, size, below, specials, epsilon}
 use Rattle.regex.specs.Grammar.{Level, Alt, Reads, Sentence, alt-conj, alt-bar, conj-seq, conj-amp, seq-pre, seq-more, pre-post, pre-bang, post-atom}
-use Rattle.regex.specs.Grammar.{post-star, atom-letter, atom-empty, atom-epsilon, atom-group}
-use Rattle.regex.specs.Scan.{to, stepAfter, stepBefore, afterStep, scanFrom, scanned, finds, isSentence}
+use Rattle.regex.specs.Grammar.{post-star, atom-letter, atom-any, atom-set, atom-empty, atom-epsilon, atom-group}
+use Rattle.regex.specs.Scan.{to, stepAfter, stepBefore, stepOpened, stepLetters, afterStep, scanFrom, scanned, finds, isSentence}
+use Rattle.regex.specs.declared.Stage.{Stage}
+use Rattle.regex.specs.declared.Stage.the-variants.{Operand, Ended, Opened, Letters}
 use Rattle.regex.specs.declared.ScanStep.{ScanStep}
 use Rattle.regex.specs.declared.ScanStep.the-variants.{Stuck}
 use Rattle.regex.specs.declared.ScanResult.{ScanResult}
 use Rattle.regex.specs.declared.ScanResult.the-variants as result
-use Rattle.regex.proofs.ScanAccepts.{scan-reads, sentence-found}
+use Rattle.regex.proofs.ScanAccepts.{from, close-step, scan-reads, sentence-found}
 use Rattle.regex.proofs.OneReading.{sentence-reads}
 use Rattle.regex.specs.TreeOf.{treeOf}
 use Rattle.replacement.specs.Replaced.{isAngle, Replaced, ends, byte, name, AnySentence, Formed}
@@ -39,6 +40,10 @@ bare-append (b ∷ u) v p q = (p .0, bare-append u v (p .1) q)
 no-angle : (b : ℕ) → T (isEvent b) → isAngle b ≡ false
 no-angle b h = rw (event-not b 60 h tt, event-not b 62 h tt)
 
+bare-letters : (u : List ℕ) → Events u → Bare u
+bare-letters [] h = tt
+bare-letters (b ∷ u) h = (no-angle b (h .0), bare-letters u (h .1))
+
 bare : {l : Level} {o : ℕ} {u : List ℕ} {t : Tree} → Reads l o u t → Bare u
 bare (alt-conj r) = bare r
 bare (alt-bar {u = u} {v = v} r q) = bare-append u (124 ∷ v) (bare r) (refl, bare q)
@@ -51,6 +56,8 @@ bare (pre-bang r) = (refl, bare r)
 bare (post-atom r) = bare r
 bare (post-star {u = u} r) = bare-append u (42 ∷ []) (bare r) (refl, tt)
 bare (atom-letter {b = b} h) = (no-angle b h, tt)
+bare atom-any = (refl, tt)
+bare (atom-set u h e) = (refl, bare-append u (93 ∷ []) (bare-letters u e) (refl, tt))
 bare atom-empty = (refl, tt)
 bare atom-epsilon = (refl, tt)
 bare (atom-group {u = u} r) = (refl, bare-append u (41 ∷ []) (bare r) (refl, tt))
@@ -62,9 +69,6 @@ plain (own b ∷ ps) h = (h .0, plain ps (h .1))
 plain (named n ∷ ps) h = plain ps (h .1)
 
 -- ---- the scan of both texts goes the same way
-abbrev from : List ℕ → ℕ → ℕ → Bool → ℕ → ℕ → ScanResult
-from s i d a m k = scanFrom s i (record { depth = d; ended = a; nodes = m; specials = k })
-
 -- two scans that find a sentence or none alike: after m and k the first counts as many nodes as the second after n and c, and p more, and q special ones more
 data Same (p q m n k c : ℕ) : ScanResult → ScanResult → Type 0 where
   found : {a b x y : ℕ} → a + n ≡ x + m + p → b + c ≡ y + k + q → Same p q m n k c (result.Complete a b) (result.Complete x y)
@@ -72,7 +76,7 @@ data Same (p q m n k c : ℕ) : ScanResult → ScanResult → Type 0 where
 
 -- two texts that the scan goes through alike, whatever stands before them
 Alike : ℕ → ℕ → List ℕ → List ℕ → Type 0
-Alike more special x y = (i j d : ℕ) (a : Bool) (m n k c : ℕ) → Same more special m n k c (from x i d a m k) (from y j d a n c)
+Alike more special x y = (i j d : ℕ) (a : Stage) (m n k c : ℕ) → Same more special m n k c (from x i d a m k) (from y j d a n c)
 
 -- the same from other numbers of nodes
 same-from : (p q e f m n k c m' n' k' c' : ℕ) {r s : ScanResult} → m' + n ≡ n' + m + e → k' + c ≡ c' + k + f
@@ -95,7 +99,7 @@ module _ (p q : ℕ) (x y : List ℕ) (h : Alike p q x y) (i j m n k c : ℕ) wh
   Ahead : ScanStep → ScanStep → Type 0
   Ahead a b = Same p q m n k c (afterStep (scanFrom x) i a) (afterStep (scanFrom y) j b)
 
-  goes : (d : ℕ) (a : Bool) (m' n' k' c' : ℕ) → m' + n ≡ n' + m + 0 → k' + c ≡ c' + k + 0 → Ahead (to d a m' k') (to d a n' c')
+  goes : (d : ℕ) (a : Stage) (m' n' k' c' : ℕ) → m' + n ≡ n' + m + 0 → k' + c ≡ c' + k + 0 → Ahead (to d a m' k') (to d a n' c')
   unfolding Ahead Alike
   goes d a m' n' k' c' e f = no-more p q m n k c (same-from p q 0 0 m n k c m' n' k' c' e f (h (i + 1) (j + 1) d a m' n' k' c'))
 
@@ -105,57 +109,65 @@ module _ (p q : ℕ) (x y : List ℕ) (h : Alike p q x y) (i j m n k c : ℕ) wh
 
   before : (b d : ℕ) → Ahead (stepBefore d m k b) (stepBefore d n c b)
   before b d =
-      same-side Ahead (eqb b 33) (goes d false (m + 1) (n + 1) (k + 1) (c + 1) (omega arith) (omega arith))
-      (same-side Ahead (eqb b 40) (goes (d + 1) false m n k c (omega arith) (omega arith))
-      (same-side Ahead (isLeaf b) (goes d true (m + 1) (n + 1) k c (omega arith) (omega arith)) stuck))
+      same-side Ahead (eqb b 33) (goes d Operand (m + 1) (n + 1) (k + 1) (c + 1) (omega arith) (omega arith))
+      (same-side Ahead (eqb b 40) (goes (d + 1) Operand m n k c (omega arith) (omega arith))
+      (same-side Ahead (eqb b 91) (goes d Opened (m + 1) (n + 1) k c (omega arith) (omega arith))
+      (same-side Ahead (isLeaf b) (goes d Ended (m + 1) (n + 1) k c (omega arith) (omega arith)) stuck)))
 
   after : (b d : ℕ) → Ahead (stepAfter d m k b) (stepAfter d n c b)
   after b d =
-      same-side Ahead (eqb b 42) (goes d true (m + 1) (n + 1) k c (omega arith) (omega arith))
-      (same-side Ahead (eqb b 124) (goes d false (m + 1) (n + 1) k c (omega arith) (omega arith))
-      (same-side Ahead (eqb b 38) (goes d false (m + 1) (n + 1) (k + 1) (c + 1) (omega arith) (omega arith))
+      same-side Ahead (eqb b 42) (goes d Ended (m + 1) (n + 1) k c (omega arith) (omega arith))
+      (same-side Ahead (eqb b 124) (goes d Operand (m + 1) (n + 1) k c (omega arith) (omega arith))
+      (same-side Ahead (eqb b 38) (goes d Operand (m + 1) (n + 1) (k + 1) (c + 1) (omega arith) (omega arith))
       (same-side Ahead (eqb b 41)
-      (same-side Ahead (eqb d 0) stuck (goes (d - 1) true m n k c (omega arith) (omega arith)))
-      (same-side Ahead (eqb b 33) (goes d false (m + 2) (n + 2) (k + 1) (c + 1) (omega arith) (omega arith))
-      (same-side Ahead (eqb b 40) (goes (d + 1) false (m + 1) (n + 1) k c (omega arith) (omega arith))
-      (same-side Ahead (isLeaf b) (goes d true (m + 2) (n + 2) k c (omega arith) (omega arith)) stuck))))))
+      (same-side Ahead (eqb d 0) stuck (goes (d - 1) Ended m n k c (omega arith) (omega arith)))
+      (same-side Ahead (eqb b 33) (goes d Operand (m + 2) (n + 2) (k + 1) (c + 1) (omega arith) (omega arith))
+      (same-side Ahead (eqb b 40) (goes (d + 1) Operand (m + 1) (n + 1) k c (omega arith) (omega arith))
+      (same-side Ahead (eqb b 91) (goes d Opened (m + 2) (n + 2) k c (omega arith) (omega arith))
+      (same-side Ahead (isLeaf b) (goes d Ended (m + 2) (n + 2) k c (omega arith) (omega arith)) stuck)))))))
+
+  in-brackets : (b d : ℕ) → Ahead (stepOpened d m k b) (stepOpened d n c b)
+  in-brackets b d = same-side Ahead (isEvent b) (goes d Letters m n k c (omega arith) (omega arith)) stuck
+
+  after-letter : (b d : ℕ) → Ahead (stepLetters d m k b) (stepLetters d n c b)
+  after-letter b d = same-side Ahead (eqb b 93) (goes d Ended m n k c (omega arith) (omega arith)) (in-brackets b d)
 
 alike-byte : (p q b : ℕ) (x y : List ℕ) → Alike p q x y → Alike p q (b ∷ x) (b ∷ y)
 unfolding Alike scanFrom Ahead
-alike-byte p q b x y h i j d true m n k c = after p q x y h i j m n k c b d
-alike-byte p q b x y h i j d false m n k c = before p q x y h i j m n k c b d
+alike-byte p q b x y h i j d Operand m n k c = before p q x y h i j m n k c b d
+alike-byte p q b x y h i j d Ended m n k c = after p q x y h i j m n k c b d
+alike-byte p q b x y h i j d Opened m n k c = in-brackets p q x y h i j m n k c b d
+alike-byte p q b x y h i j d Letters m n k c = after-letter p q x y h i j m n k c b d
 
 alike-end : Alike 0 0 [] []
 unfolding Alike scanFrom
-alike-end i j d true m n k c = go (eqb d 0)
+alike-end i j d Operand m n k c = broken
+alike-end i j d Opened m n k c = broken
+alike-end i j d Letters m n k c = broken
+alike-end i j d Ended m n k c = go (eqb d 0)
   where
     go : (t : Bool) → Same 0 0 m n k c (cond t (result.Complete m k) (result.Broken i)) (cond t (result.Complete n c) (result.Broken j))
     go true = found {a = m} {b = k} {x = n} {y = c} (omega arith) (omega arith)
     go false = broken
-alike-end i j d false m n k c = broken
 
 -- a sentence in parentheses is an operand, as `1` is
-close-step : (s : List ℕ) (i d m k : ℕ) → from (41 ∷ s) i (d + 1) true m k ≡ from s (i + 1) d true m k
-unfolding scanFrom
-close-step s i d m k =
-    let e : d + 1 - 1 ≡ d = omega arith in
-    rw (ne-eqb (d + 1) 0 (λ g. omega arith), e)
-
 grouped : (v x : List ℕ) (t : Tree) → Reads Alt 0 v t → (i d m k : ℕ)
-    → from (v ++ 41 ∷ x) (i + 1) (d + 1) false m k ≡ from x (i + 1 + length v + 1) d true (m + size t) (k + specials t)
+    → from (v ++ 41 ∷ x) (i + 1) (d + 1) Operand m k ≡ from x (i + 1 + length v + 1) d Ended (m + size t) (k + specials t)
 grouped v x t r i d m k = scan-reads r (41 ∷ x) (i + 1) (d + 1) m k ∙ close-step x (i + 1 + length v) d (m + size t) (k + specials t)
 
 alike-group : (p q : ℕ) (v x y : List ℕ) (t : Tree) → Reads Alt 0 v t → Alike p q x y
     → Alike (below t + p) (specials t + q) (40 ∷ (v ++ 41 ∷ x)) (49 ∷ y)
 unfolding Alike scanFrom
-alike-group p q v x y t r h i j d true m n k c =
-    subst (λ (z : ScanResult). Same (below t + p) (specials t + q) m n k c z (from y (j + 1) d true (n + 2) c)) (sym (grouped v x t r i d (m + 1) k))
+alike-group p q v x y t r h i j d Opened m n k c = rw (reserved-foreign 40 tt, reserved-foreign 49 tt) broken
+alike-group p q v x y t r h i j d Letters m n k c = rw (reserved-foreign 40 tt, reserved-foreign 49 tt) broken
+alike-group p q v x y t r h i j d Ended m n k c =
+    subst (λ (z : ScanResult). Same (below t + p) (specials t + q) m n k c z (from y (j + 1) d Ended (n + 2) c)) (sym (grouped v x t r i d (m + 1) k))
     (same-from p q (below t) (specials t) m n k c (m + 1 + size t) (n + 2) (k + specials t) c (omega arith) (omega arith)
-    (h (i + 1 + length v + 1) (j + 1) d true (m + 1 + size t) (n + 2) (k + specials t) c))
-alike-group p q v x y t r h i j d false m n k c =
-    subst (λ (z : ScanResult). Same (below t + p) (specials t + q) m n k c z (from y (j + 1) d true (n + 1) c)) (sym (grouped v x t r i d m k))
+    (h (i + 1 + length v + 1) (j + 1) d Ended (m + 1 + size t) (n + 2) (k + specials t) c))
+alike-group p q v x y t r h i j d Operand m n k c =
+    subst (λ (z : ScanResult). Same (below t + p) (specials t + q) m n k c z (from y (j + 1) d Ended (n + 1) c)) (sym (grouped v x t r i d m k))
     (same-from p q (below t) (specials t) m n k c (m + size t) (n + 1) (k + specials t) c (omega arith) (omega arith)
-    (h (i + 1 + length v + 1) (j + 1) d true (m + size t) (n + 1) (k + specials t) c))
+    (h (i + 1 + length v + 1) (j + 1) d Ended (m + size t) (n + 1) (k + specials t) c))
 
 -- a byte that is no angle bracket is no `<`
 pub own-byte : (b : ℕ) → isAngle b ≡ false → eqb b 60 ≡ false
@@ -187,7 +199,7 @@ found-same broken = refl
 pub shape-tells : {R : List ℕ → List ℕ → Type 0} → ((n v : List ℕ) → R n v → Sentence v) → {s u : List ℕ} → Replaced R s u
     → isSentence u ≡ isSentence (shape s)
 unfolding Alike
-shape-tells f r = found-same (aligned f r .alike 0 0 0 false 0 0 0 0)
+shape-tells f r = found-same (aligned f r .alike 0 0 0 Operand 0 0 0 0)
 
 -- ---- nodes and special nodes add up
 filled-alike : (v : List ℕ → List ℕ) (t : List ℕ → Tree) (ps : List Piece) → Names (λ (n : List ℕ). Reads Alt 0 (v n) (t n)) ps
@@ -210,7 +222,7 @@ pub counts-add : (v : List ℕ → List ℕ) (t : List ℕ → Tree) (ps : List 
     → {m k : ℕ} → scanned (shapeOf ps) ≡ result.Complete m k
     → scanned (filled v ps) ≡ result.Complete (m + moreNodes t ps) (k + moreSpecials t ps)
 unfolding Alike
-counts-add v t ps h e = add-up (filled-alike v t ps h 0 0 0 false 0 0 0 0) e
+counts-add v t ps h e = add-up (filled-alike v t ps h 0 0 0 Operand 0 0 0 0) e
 
 pub is-sentence : {s : List ℕ} → Sentence s → isSentence s ≡ true
 is-sentence x = ap finds (sentence-found (x .1))

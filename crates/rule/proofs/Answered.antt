@@ -19,23 +19,31 @@ use Rattle.regex.proofs.ScanAccepts.{sentence-found}
 use Rattle.event.proofs.LeadingLaws.{leading-found, leading-is}
 use Rattle.event.proofs.Tests.{choose}
 use Rattle.regex.proofs.ScanDecides.{scan-right}
+use Rattle.regex.specs.Unordered.{FirstUnordered, Ordered}
+use Rattle.regex.specs.OrderComputed.{unorderedAt}
 use Rattle.regex.proofs.OneReading.{tree-is}
+use Rattle.regex.proofs.UnorderedLaws.{unordered-first, ordered-all, first-is, ordered-is, inside-text}
 use Rattle.rule.specs.RuleAnswer.{RuleAnswer, isRuleByte, refusal, acceptance, values, ruleValues, unused}
-use Rattle.rule.specs.RuleComputed.{foreignAt, sized, afterScan, ruleAnswer}
+use Rattle.rule.specs.RuleComputed.{foreignAt, sized, ordered, afterScan, ruleAnswer}
 use Rattle.rule.specs.RuleMeaning.{FitsLength, Legal, RuleMeaning, empty-text, long-text, foreign-byte, no-sentence}
-use Rattle.rule.specs.RuleMeaning.{many-nodes, many-specials, accepted}
+use Rattle.rule.specs.RuleMeaning.{unordered-set, many-nodes, many-specials, accepted}
 use Rattle.rule.specs.declared.Answer.{Answer}
 
 -- ---- the answer means what it says
-sized-means : (s : List ℕ) → Legal s → (t : Tree) → Reads Alt 0 s t → RuleMeaning s (sized t)
-sized-means s a t r =
-    choose (RuleMeaning s) (ltb 64 (size t)) (λ e. many-nodes a r (ltb-true _ _ e))
-    (λ e. choose (RuleMeaning s) (ltb 7 (specials t)) (λ f. many-specials a r (ltb-false _ _ e) (ltb-true _ _ f))
-    (λ f. accepted (record { legal = a; reads = r; nodes = ltb-false _ _ e; special = ltb-false _ _ f })))
+sized-means : (s : List ℕ) → Legal s → (t : Tree) → Reads Alt 0 s t → Ordered s → RuleMeaning s (sized t)
+sized-means s a t r o =
+    choose (RuleMeaning s) (ltb 64 (size t)) (λ e. many-nodes a r o (ltb-true _ _ e))
+    (λ e. choose (RuleMeaning s) (ltb 7 (specials t)) (λ f. many-specials a r o (ltb-false _ _ e) (ltb-true _ _ f))
+    (λ f. accepted (record { legal = a; reads = r; ordered = o; nodes = ltb-false _ _ e; special = ltb-false _ _ f })))
+
+ordered-means : (s : List ℕ) → Legal s → (t : Tree) → Reads Alt 0 s t → RuleMeaning s (ordered s t)
+ordered-means s a t r =
+    choose (RuleMeaning s) (ltb (unorderedAt s) (length s)) (λ e. unordered-set a r (unordered-first s (ltb-true _ _ e)))
+    (λ e. sized-means s a t r (ordered-all s (ltb-false _ _ e)))
 
 read-means : (s : List ℕ) → Legal s → (x : ScanResult) → Means s x → RuleMeaning s (afterScan s x)
 read-means s a (Complete m k) w =
-    subst (λ (t : Tree). RuleMeaning s (sized t)) (sym (tree-is (w .reads))) (sized-means s a (w .tree) (w .reads))
+    subst (λ (t : Tree). RuleMeaning s (ordered s t)) (sym (tree-is (w .reads))) (ordered-means s a (w .tree) (w .reads))
 read-means s a (Broken n) w = no-sentence a (w .none-such) (w .place)
 
 legal : (s : List ℕ) → FitsLength s → length s ≤ foreignAt s → Legal s
@@ -79,8 +87,16 @@ past s a =
     let f = leading-is isRuleByte s (length s) (record { within = omega arith; before = a .listed; there = λ h. absurd (omega arith) }) in
     past-foreign s (a .fits) (omega arith)
 
-of-reading : {s : List ℕ} {t : Tree} → Legal s → Reads Alt 0 s t → ruleAnswer s ≡ sized t
-of-reading {s} a r = past s a ∙ ap (afterScan s) (sentence-found r) ∙ ap sized (tree-is r)
+of-reading : {s : List ℕ} {t : Tree} → Legal s → Reads Alt 0 s t → ruleAnswer s ≡ ordered s t
+of-reading {s} a r = past s a ∙ ap (afterScan s) (sentence-found r) ∙ ap (ordered s) (tree-is r)
+
+of-ordered : {s : List ℕ} {t : Tree} → Legal s → Reads Alt 0 s t → Ordered s → ruleAnswer s ≡ sized t
+of-ordered {s} a r o = of-reading a r ∙ simp (le-ltb (unorderedAt s) (length s) (ordered-is o))
+
+of-unordered : {s : List ℕ} {t : Tree} {n : ℕ} → Legal s → Reads Alt 0 s t → FirstUnordered s n → ruleAnswer s ≡ refusal 20 n
+of-unordered {s} {t} {n} a r f =
+    let e = first-is f in
+    of-reading a r ∙ simp (lt-ltb (unorderedAt s) (length s) (omega (arith, inside-text s n (f .there)))) (ap (refusal 20) e)
 
 at-most : (s : List ℕ) (m n : ℕ) → Longest s m → Longest s n → m ≤ n
 at-most s m n a b = go (decLt n m)
@@ -107,10 +123,11 @@ answer-is {s} (foreign-byte {n = n} a h l b) =
     let f = leading-is isRuleByte s n (record { within = omega arith; before = l; there = λ h. b }) in
     sym (at-foreign s a (omega arith) ∙ ap (refusal 3) f)
 answer-is {s} (no-sentence {n = n} a none l) = sym (past s a ∙ broken-is s n none l (scanned s) (scan-right s))
-answer-is (many-nodes {t = t} a r h) = sym (of-reading a r ∙ simp (lt-ltb 64 (size t) h))
-answer-is (many-specials {t = t} a r h g) = sym (of-reading a r ∙ simp (le-ltb 64 (size t) h, lt-ltb 7 (specials t) g))
+answer-is (unordered-set a r f) = sym (of-unordered a r f)
+answer-is (many-nodes {t = t} a r o h) = sym (of-ordered a r o ∙ simp (lt-ltb 64 (size t) h))
+answer-is (many-specials {t = t} a r o h g) = sym (of-ordered a r o ∙ simp (le-ltb 64 (size t) h, lt-ltb 7 (specials t) g))
 answer-is (accepted {t = t} p) =
-    sym (of-reading (p .legal) (p .reads) ∙ simp (le-ltb 64 (size t) (p .nodes), le-ltb 7 (specials t) (p .special)))
+    sym (of-ordered (p .legal) (p .reads) (p .ordered) ∙ simp (le-ltb 64 (size t) (p .nodes), le-ltb 7 (specials t) (p .special)))
 
 -- ---- what the proofs of the functions cite
 -- the answer of the code

@@ -6,11 +6,11 @@ use mathlib.Core.Bool.{true}
 use mathlib.Core.List.{List, [], _∷_, _++_}
 use lib.Dec.{T}
 use lib.ListN.{length}
-use Rattle.event.specs.Event.{isEvent}
+use Rattle.event.specs.Event.{isEvent, Events}
 use Rattle.event.proofs.Tests.{of-T}
 use Rattle.regex.specs.Tree.{Tree}
 use Rattle.regex.specs.Grammar.{Level, Reads, alt-conj, alt-bar, conj-seq, conj-amp, seq-pre, seq-more, pre-post, pre-bang, post-atom, post-star}
-use Rattle.regex.specs.Grammar.{atom-letter, atom-empty, atom-epsilon, atom-group}
+use Rattle.regex.specs.Grammar.{atom-letter, atom-any, atom-set, atom-empty, atom-epsilon, atom-group}
 use Rattle.rule.specs.RuleAnswer.{isRuleByte}
 use Rattle.rule.specs.RuleMeaning.{Listed}
 
@@ -28,6 +28,10 @@ none i h = absurd (omega arith)
 letter : (b : ℕ) → T (isEvent b) → isRuleByte b ≡ true
 letter b h = rw (of-T (isEvent b) h)
 
+letters : (u : List ℕ) → Events u → Listed u (length u)
+letters [] h = none
+letters (b ∷ u) h = first b u (letter b (h .0)) (letters u (h .1))
+
 pub read-listed : {l : Level} {o : ℕ} {u : List ℕ} {t : Tree} → Reads l o u t → Listed u (length u)
 unfolding isEvent
 read-listed (alt-conj r) = read-listed r
@@ -41,6 +45,8 @@ read-listed (pre-bang {u = u} r) = first 33 u refl (read-listed r)
 read-listed (post-atom r) = read-listed r
 read-listed (post-star {u = u} r) = joined u (42 ∷ []) (read-listed r) (first 42 [] refl none)
 read-listed (atom-letter {b = b} h) = first b [] (letter b h) none
+read-listed atom-any = first 46 [] refl none
+read-listed (atom-set u h e) = first 91 (u ++ 93 ∷ []) refl (joined u (93 ∷ []) (letters u e) (first 93 [] refl none))
 read-listed atom-empty = first 48 [] refl none
 read-listed atom-epsilon = first 49 [] refl none
 read-listed (atom-group {u = u} r) = first 40 (u ++ 41 ∷ []) refl (joined u (41 ∷ []) (read-listed r) (first 41 [] refl none))

@@ -10,7 +10,10 @@ use lib.Dec.{eqb, ltb}
 use borrow.Author.Tests.{lt-ltb, le-ltb, eq-eqb, ne-eqb}
 use Rattle.event.proofs.Tails.{tail, tail-is}
 use Rattle.regex.specs.Bytes.{isStart}
-use Rattle.regex.specs.Parse.{Call, alt, altRest, conj, conjRest, seq, seqRest, pre, post, postRest, atom, rank, measure, parse, leafKind}
+use Rattle.regex.specs.Leaves.{leafAt}
+use Rattle.regex.specs.declared.Leaf.{Leaf}
+use Rattle.regex.proofs.LeafLaws.{leaf-fits}
+use Rattle.regex.specs.Parse.{Call, alt, altRest, conj, conjRest, seq, seqRest, pre, post, postRest, atom, rank, measure, parse}
 use Rattle.regex.specs.declared.Kind.{Kind}
 use Rattle.regex.specs.declared.Kind.the-variants.{Union, Intersection, Concatenation, Complement, Star}
 use Rattle.regex.proofs.Texts.{start-some}
@@ -302,14 +305,15 @@ module _ {s : List ℕ} {r z : State} {x : ℕ} (e : x ≡ getD s 0 0) where
   pub group-open : {y : State} → x ≡ 40 → y ≡ skipped r → Done alt (tail 1 s) y z → length s ≤ z .1 - r .1 → Done atom s r z
   group-open h w a l = grouped h w a (omega arith) (λ u. u) (rw (le-ltb _ _ l))
 
-  pub leaf-done : {k : Kind} {p : State} → (x ≡ 40 → ⊥) → 0 < length s → k ≡ leafKind x → p ≡ pushed r (r .1) k → z ≡ skipped p
-      → Done atom s r z
+  pub leaf-done : {l : Leaf} {p : State} → (x ≡ 40 → ⊥) → 0 < length s → l ≡ leafAt s → p ≡ pushed r (r .1) (l .kind)
+      → z ≡ (p .0, p .1 + l .width) → Done atom s r z
   unfolding parse
-  leaf-done h n k g w =
+  leaf-done {l} {p} h n k g w =
       let t = unseen s e h in
-      let v = w ∙ ap skipped (g ∙ ap (pushed r (r .1)) (k ∙ ap leafKind e)) in
+      let m = leaf-fits s n in
+      let v = w ∙ ap (λ (p : State). (p .0, p .1 + l .width)) g ∙ ap (λ (y : Leaf). (add (r .0) (r .1) (y .kind), r .1 + y .width)) k in
       let o = same-offset v in
-      done atom s r z (omega arith) (omega arith) (λ f h. v ∙ rw (t, lt-ltb 0 (length s) n))
+      done atom s r z (omega (arith, m)) (omega (arith, m)) (λ f h. v ∙ rw (t, lt-ltb 0 (length s) n))
 
 pub atom-ends : {s : List ℕ} {r : State} {x : ℕ} → x ≡ getD s 0 0 → (x ≡ 40 → ⊥) → length s ≤ 0 → Done atom s r r
 unfolding parse

@@ -6,18 +6,19 @@ use mathlib.Core.List.{List}
 use lib.ListN.{length, length-append, length-replicate}
 use Rattle.regex.specs.Tree.{Tree}
 use Rattle.regex.proofs.RecordLaws.{records-length}
-use Rattle.verdict.proofs.ByReader.{ByReader, below-judge}
+use Rattle.verdict.proofs.ByReader.{ByReader, below-judge, above-judge}
 use Rattle.rule.specs.RuleAnswer.{RuleAnswer, refusal, refusalVerdict, acceptance}
 use Rattle.rule.specs.RuleMeaning.{Passed, RuleMeaning, empty-text, long-text, foreign-byte, no-sentence}
-use Rattle.rule.specs.RuleMeaning.{many-nodes, many-specials, accepted}
+use Rattle.rule.specs.RuleMeaning.{unordered-set, many-nodes, many-specials, accepted}
 use Rattle.rule.specs.declared.Refusal.{Refusal}
-use Rattle.rule.specs.declared.Refusal.the-variants.{EmptyText, LongText, ForeignByte, NoSentence, ManyNodes, ManySpecials}
+use Rattle.rule.specs.declared.Refusal.the-variants.{EmptyText, LongText, ForeignByte, NoSentence, UnorderedSet, ManyNodes, ManySpecials}
 
 pub in-row : (r : Refusal) → ByReader (refusalVerdict r)
 in-row EmptyText = below-judge 1 0 (omega arith) (omega arith)
 in-row LongText = below-judge 2 0 (omega arith) (omega arith)
 in-row (ForeignByte n) = below-judge 3 n (omega arith) (omega arith)
 in-row (NoSentence n) = below-judge 4 n (omega arith) (omega arith)
+in-row (UnorderedSet n) = above-judge 20 n (omega arith)
 in-row ManyNodes = below-judge 5 0 (omega arith) (omega arith)
 in-row ManySpecials = below-judge 6 0 (omega arith) (omega arith)
 
@@ -31,8 +32,9 @@ row (empty-text h) = refused-by EmptyText refl
 row (long-text h) = refused-by LongText refl
 row (foreign-byte {n = n} f h l b) = refused-by (ForeignByte n) refl
 row (no-sentence {n = n} l h g) = refused-by (NoSentence n) refl
-row (many-nodes l r h) = refused-by ManyNodes refl
-row (many-specials l r h g) = refused-by ManySpecials refl
+row (unordered-set {n = n} l r f) = refused-by (UnorderedSet n) refl
+row (many-nodes l r o h) = refused-by ManyNodes refl
+row (many-specials l r o h g) = refused-by ManySpecials refl
 row (accepted {t = t} p) = passed-as t p refl
 
 number-of : {a b : RuleAnswer} → a ≡ b → a .number ≡ b .number

@@ -7,8 +7,11 @@ use mathlib.Core.Bool.{Bool, cond}
 use lib.ListN.{length, getD, drop}
 use lib.Seq.{drop-length}
 use lib.Dec.{eqb}
+use Rattle.event.specs.Event.{isEvent}
 use Rattle.regex.specs.Bytes.{isLeaf}
-use Rattle.regex.specs.Scan.{stepOf, scanFrom, finish, afterStep}
+use Rattle.regex.specs.declared.Stage.{Stage}
+use Rattle.regex.specs.declared.Stage.the-variants.{Operand, Ended, Opened, Letters}
+use Rattle.regex.specs.Scan.{stepAt, stepOf, scanFrom, finish, afterStep}
 use Rattle.regex.specs.declared.ScanState.{ScanState}
 use Rattle.regex.specs.declared.ScanStep.{ScanStep}
 use Rattle.regex.specs.declared.ScanStep.the-variants.{Stuck, Next}
@@ -32,12 +35,19 @@ Within q (Next p) = Near q p
 
 step-near : (q : ScanState) (b : ℕ) → Within q (stepOf q b)
 step-near q b =
-    let W = Within q in
-    both W (q .ended)
-    (both W (eqb b 42) (omega arith) (both W (eqb b 124) (omega arith) (both W (eqb b 38) (omega arith)
-    (both W (eqb b 41) (both W (eqb (q .depth) 0) tt (omega arith))
-    (both W (eqb b 33) (omega arith) (both W (eqb b 40) (omega arith) (both W (isLeaf b) (omega arith) tt)))))))
-    (both W (eqb b 33) (omega arith) (both W (eqb b 40) (omega arith) (both W (isLeaf b) (omega arith) tt)))
+    go (q .stage)
+  where
+    go : (a : Stage) → Within q (stepAt a (q .depth) (q .nodes) (q .specials) b)
+    go Operand =
+        both (Within q) (eqb b 33) (omega arith) (both (Within q) (eqb b 40) (omega arith)
+        (both (Within q) (eqb b 91) (omega arith) (both (Within q) (isLeaf b) (omega arith) tt)))
+    go Ended =
+        both (Within q) (eqb b 42) (omega arith) (both (Within q) (eqb b 124) (omega arith) (both (Within q) (eqb b 38) (omega arith)
+        (both (Within q) (eqb b 41) (both (Within q) (eqb (q .depth) 0) tt (omega arith))
+        (both (Within q) (eqb b 33) (omega arith) (both (Within q) (eqb b 40) (omega arith)
+        (both (Within q) (eqb b 91) (omega arith) (both (Within q) (isLeaf b) (omega arith) tt)))))))
+    go Opened = both (Within q) (isEvent b) (omega arith) tt
+    go Letters = both (Within q) (eqb b 93) (omega arith) (both (Within q) (isEvent b) (omega arith) tt)
 
 pub near : (q p : ScanState) (b : ℕ) → Next p ≡ stepOf q b → Near q p
 near q p b e = subst (Within q) (sym e) (step-near q b)

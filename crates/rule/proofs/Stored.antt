@@ -2,17 +2,20 @@
 use Prim.Native.Nat.{ℕ, zero, suc, _+_, _-_, _*_, _%_, _≤_, _<_}
 use native.Mathlib.Omega.{arith}
 use mathlib.Core.Path.{_≡_, refl, sym, ap, ap₂, _∙_}
+use mathlib.Core.Bool.{false}
 use mathlib.Core.List.{List, [], _∷_, _++_, map, map-append}
-use lib.Dec.{T}
+use lib.Dec.{eqb, lit<}
 use lib.ListN.{length, getD, take, drop, set, replicate, length-set, length-replicate, replicate-append-replicate}
 use lib.Seq.{sets, sets-eq, drop-at, take-suc, take-suc-set, take-all}
-use borrow.Author.Tests.{lt-ltb}
-use Rattle.event.specs.Event.{isEvent}
-use Rattle.event.proofs.EventLaws.{event-not, event-byte}
+use borrow.Author.Tests.{lt-ltb, ne-eqb}
+use Rattle.event.specs.LetterSets.{none, every, single, lettersOf}
+use Rattle.event.specs.declared.sets.LetterSet.{LetterSet}
+use Rattle.event.specs.SetParts.{OnlyLetters}
+use Rattle.event.proofs.SetLaws.{plus-small, gathered-small}
 use Rattle.regex.specs.KindNumber.{kindNumber}
 use Rattle.regex.specs.Tree.{Tree, size, records, nodeRecord}
 use Rattle.regex.specs.Grammar.{Level, Reads, alt-conj, alt-bar, conj-seq, conj-amp, seq-pre, seq-more}
-use Rattle.regex.specs.Grammar.{pre-post, pre-bang, post-atom, post-star, atom-letter, atom-empty, atom-epsilon, atom-group}
+use Rattle.regex.specs.Grammar.{pre-post, pre-bang, post-atom, post-star, atom-letter, atom-any, atom-set, atom-empty, atom-epsilon, atom-group}
 use Rattle.regex.specs.Parse.{alt, measure}
 use Rattle.regex.specs.TreeOf.{treeOf}
 use Rattle.regex.specs.declared.Kind.{Kind}
@@ -71,18 +74,22 @@ zeros-after n m h =
     ∙ ap (drop n) (sym (replicate-append-replicate n (m - n) 0))
     ∙ drop-at (zeros n) (zeros (m - n)) n (length-replicate n 0)
 
--- an event is no other kind's number
-letter-back : (b : ℕ) → T (isEvent b) → kindOf b ≡ Letter b
-letter-back b h =
-    let m : b % 256 ≡ b = omega (arith, event-byte b h) in
+-- a set's number is no other kind's
+other : (n k : ℕ) → k ≤ 6 → eqb (9223372036854775808 + n) k ≡ false
+other n k h = ne-eqb (9223372036854775808 + n) k (λ e. omega arith)
+
+set-back : (c : LetterSet) → OnlyLetters c → kindOf (kindNumber (Letter c)) ≡ Letter c
+set-back c h =
+    let n = c .bits % 4503599627370496 in
+    let m : (9223372036854775808 + n) % 4503599627370496 ≡ c .bits = omega arith in
     simp (
-      event-not b 0 h tt,
-      event-not b 1 h tt,
-      event-not b 2 h tt,
-      event-not b 3 h tt,
-      event-not b 4 h tt,
-      event-not b 5 h tt,
-      event-not b 6 h tt,
+      other n 0 (omega arith),
+      other n 1 (omega arith),
+      other n 2 (omega arith),
+      other n 3 (omega arith),
+      other n 4 (omega arith),
+      other n 5 (omega arith),
+      other n 6 (omega arith),
       m,
     )
 
@@ -107,7 +114,9 @@ records-again (pre-post r) = records-again r
 records-again (pre-bang r) = one-side (records-again r) refl
 records-again (post-atom r) = records-again r
 records-again (post-star r) = one-side (records-again r) refl
-records-again (atom-letter {o = o} {b = b} h) = ap (nodeRecord o) (letter-back b h)
+records-again (atom-letter {o = o} {b = b} h) = ap (nodeRecord o) (set-back (single b) (plus-small none b (lit< tt)))
+records-again (atom-any {o = o}) = ap (nodeRecord o) (set-back every (lit< tt))
+records-again (atom-set {o = o} u h e) = ap (nodeRecord o) (set-back (lettersOf u) (gathered-small u none (lit< tt)))
 records-again atom-empty = refl
 records-again atom-epsilon = refl
 records-again (atom-group r) = records-again r

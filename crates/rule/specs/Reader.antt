@@ -25,7 +25,7 @@ kindOf k =
     (cond (eqb k 3) Intersection
     (cond (eqb k 4) Concatenation
     (cond (eqb k 5) Complement
-    (cond (eqb k 6) Star (Letter (k % 256))))))))
+    (cond (eqb k 6) Star (Letter (record { bits = k % 4503599627370496 }))))))))
 
 -- records from a buffer of numbers, two for each
 abbrev pub nodesOf : List ℕ → List Node

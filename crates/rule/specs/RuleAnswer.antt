@@ -1,4 +1,4 @@
--- The values of the rule reader's answers, by document 01. Assumes nothing.
+-- The values of the rule reader's answers, by documents 01 and 02 e). Assumes nothing.
 use Prim.Native.Nat.{ℕ, _-_}
 use mathlib.Core.List.{List, _++_}
 use mathlib.Core.Bool.{Bool, _||_}
@@ -26,9 +26,11 @@ pub record RuleAnswer : Type 0 where
   pub k : ℕ
   pub nodes : List Node
 
--- 01: "A rule is a text .. from: the letters, `0` .., `1` .., `|` .., `&` .., `!` .., `*` .., `(` and `)`"
+-- 01: "A rule is a text .. from: the letters, `0` .., `1` .., `|` .., `&` .., `!` .., `*` .., `(` and `)`";
+-- 02 e): "Number 3 no longer covers the bytes `[`, `]` and `.`."
 abbrev pub isRuleByte : ℕ → Bool
-isRuleByte b = isEvent b || eqb b 48 || eqb b 49 || eqb b 124 || eqb b 38 || eqb b 33 || eqb b 42 || eqb b 40 || eqb b 41
+isRuleByte b =
+    isEvent b || eqb b 48 || eqb b 49 || eqb b 124 || eqb b 38 || eqb b 33 || eqb b 42 || eqb b 40 || eqb b 41 || eqb b 91 || eqb b 93 || eqb b 46
 
 -- what stands in records that no node fills, which 01 leaves free: the kind of `0`, at offset 0. The rule `0` has a record that looks
 -- the same; m tells them apart.
@@ -46,12 +48,13 @@ refusal number place = values number place 0 0 (unused 64)
 abbrev pub acceptance : Tree → RuleAnswer
 acceptance t = values 0 0 (size t) (specials t) (records t ++ unused (64 - size t))
 
--- 01: number and place of each refusal of the row "Rule text"
+-- 01, 02 e): number and place of each refusal of the row "Rule text"
 abbrev pub refusalVerdict : Refusal → Verdict
 refusalVerdict why.EmptyText = verdict.refused 1 0
 refusalVerdict why.LongText = verdict.refused 2 0
 refusalVerdict (why.ForeignByte n) = verdict.refused 3 n
 refusalVerdict (why.NoSentence n) = verdict.refused 4 n
+refusalVerdict (why.UnorderedSet n) = verdict.refused 20 n
 refusalVerdict why.ManyNodes = verdict.refused 5 0
 refusalVerdict why.ManySpecials = verdict.refused 6 0
 

@@ -9,11 +9,12 @@ use Rattle.event.specs.Leading.{leading}
 use Rattle.regex.specs.Tree.{Tree, size, specials}
 use Rattle.regex.specs.TreeOf.{treeOf}
 use Rattle.regex.specs.Scan.{scanned}
+use Rattle.regex.specs.OrderComputed.{unorderedAt}
 use Rattle.regex.specs.declared.ScanResult.{ScanResult}
 use Rattle.regex.specs.declared.ScanResult.the-variants.{Complete, Broken}
 use Rattle.rule.specs.RuleAnswer.{RuleAnswer, isRuleByte, unused, refusalVerdict, told, acceptance}
 use Rattle.rule.specs.declared.Refusal.{Refusal}
-use Rattle.rule.specs.declared.Refusal.the-variants.{EmptyText, LongText, ForeignByte, NoSentence, ManyNodes, ManySpecials}
+use Rattle.rule.specs.declared.Refusal.the-variants.{EmptyText, LongText, ForeignByte, NoSentence, UnorderedSet, ManyNodes, ManySpecials}
 
 abbrev pub refusedBy : Refusal → RuleAnswer
 refusedBy r = told (refusalVerdict r) 0 0 (unused 64)
@@ -26,9 +27,13 @@ foreignAt s = leading isRuleByte s
 abbrev pub sized : Tree → RuleAnswer
 sized t = cond (ltb 64 (size t)) (refusedBy ManyNodes) (cond (ltb 7 (specials t)) (refusedBy ManySpecials) (acceptance t))
 
+-- 02 e), number 20: "a letter inside brackets that is not above the one before it"
+abbrev pub ordered : List ℕ → Tree → RuleAnswer
+ordered s t = cond (ltb (unorderedAt s) (length s)) (refusedBy (UnorderedSet (unorderedAt s))) (sized t)
+
 -- 01, number 4: "not a sentence"
 abbrev pub afterScan : List ℕ → ScanResult → RuleAnswer
-afterScan s (Complete m k) = sized (treeOf s)
+afterScan s (Complete m k) = ordered s (treeOf s)
 afterScan s (Broken n) = refusedBy (NoSentence n)
 
 -- 01, numbers 1, 2 and 3: "empty", "over 255 bytes", "a byte outside the list"

@@ -1,4 +1,4 @@
--- What the rule reader's answer says of a text, by the grammar: document 01's row "Rule text". Assumes nothing.
+-- What the rule reader's answer says of a text, by the grammar: document 01's row "Rule text", with 02 e). Assumes nothing.
 -- That `ruleAnswer` is the one answer which says so is `answer-means` and `answer-is` in proofs/Answered.
 use Prim.Native.Nat.{ℕ, _≤_, _<_}
 use mathlib.Core.Path.{_≡_}
@@ -7,6 +7,7 @@ use mathlib.Core.Bool.{true, false}
 use lib.ListN.{length, getD}
 use Rattle.regex.specs.Tree.{Tree, size, specials}
 use Rattle.regex.specs.Grammar.{Alt, Reads, Sentence, Longest}
+use Rattle.regex.specs.Unordered.{FirstUnordered, Ordered}
 use Rattle.rule.specs.RuleAnswer.{RuleAnswer, isRuleByte, refusal, acceptance}
 
 -- 01: "a text of 1 to 255 bytes"
@@ -26,6 +27,7 @@ pub record Legal (s : List ℕ) : Type 0 where
 pub record Passed (s : List ℕ) (t : Tree) : Type 0 where
   pub legal : Legal s
   pub reads : Reads Alt 0 s t
+  pub ordered : Ordered s
   pub nodes : size t ≤ 64
   pub special : specials t ≤ 7
 
@@ -39,9 +41,11 @@ pub data RuleMeaning (s : List ℕ) : RuleAnswer → Type 0 where
   foreign-byte : {n : ℕ} → FitsLength s → n < length s → Listed s n → isRuleByte (getD s n 0) ≡ false → RuleMeaning s (refusal 3 n)
   -- "4: not a sentence; place is the length of the longest beginning that some sentence of any length also has."
   no-sentence : {n : ℕ} → Legal s → (Sentence s → ⊥) → Longest s n → RuleMeaning s (refusal 4 n)
+  -- 02 e): "20, a letter inside brackets that is not above the one before it in byte order, place the offset of the first such letter, after 4"
+  unordered-set : {t : Tree} {n : ℕ} → Legal s → Reads Alt 0 s t → FirstUnordered s n → RuleMeaning s (refusal 20 n)
   -- "5: m over 64."
-  many-nodes : {t : Tree} → Legal s → Reads Alt 0 s t → 64 < size t → RuleMeaning s (refusal 5 0)
+  many-nodes : {t : Tree} → Legal s → Reads Alt 0 s t → Ordered s → 64 < size t → RuleMeaning s (refusal 5 0)
   -- "6: k over 7"
-  many-specials : {t : Tree} → Legal s → Reads Alt 0 s t → size t ≤ 64 → 7 < specials t → RuleMeaning s (refusal 6 0)
+  many-specials : {t : Tree} → Legal s → Reads Alt 0 s t → Ordered s → size t ≤ 64 → 7 < specials t → RuleMeaning s (refusal 6 0)
   -- accepted: m, k and the records are those of the tree that the text is read as
   accepted : {t : Tree} → Passed s t → RuleMeaning s (acceptance t)

@@ -4,13 +4,14 @@ ghost use Rattle.regex.specs.Bytes.{isLeaf, isStart};
 ghost use Rattle.rule.specs.RuleAnswer.{isRuleByte};
 ghost use Rattle.rule.specs.RuleComputed.{foreignAt};
 
-// `0`, `1` or a letter.
+// A leaf of one byte: `0`, `1`, `.` or a letter.
 pub fn is_leaf(b: u8) -> bool
     ensures { λ r. ⌜ r ≡ isLeaf b ⌝ }
 {
     match b {
         b'0' => true,
         b'1' => true,
+        b'.' => true,
         _ => event::is_event(b),
     }
 }
@@ -22,6 +23,7 @@ pub fn is_start(b: u8) -> bool
     match b {
         b'!' => true,
         b'(' => true,
+        b'[' => true,
         _ => is_leaf(b),
     }
 }
@@ -39,6 +41,9 @@ pub fn is_rule_byte(b: u8) -> bool
         b'*' => true,
         b'(' => true,
         b')' => true,
+        b'[' => true,
+        b']' => true,
+        b'.' => true,
         _ => event::is_event(b),
     }
 }

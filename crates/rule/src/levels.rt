@@ -2,6 +2,7 @@
 // The levels write each record as two numbers into a lent buffer: records by value in every frame of the recursion would take
 // megabytes of stack.
 use crate::bytes::is_start;
+use crate::leaf::read_leaf;
 use crate::records::nodes_of;
 use regex::Kind;
 use regex::Node;
@@ -9,7 +10,7 @@ use regex::kind_number;
 ghost use mathlib.Core.Path.{_≡_};
 ghost use Prim.Native.Nat.{_+_, _≤_, _<_};
 ghost use lib.ListN.{length, getD};
-ghost use Rattle.regex.specs.Parse.{leafKind, alt, conj, seq, pre, post, atom};
+ghost use Rattle.regex.specs.Parse.{alt, conj, seq, pre, post, atom};
 ghost use Rattle.rule.specs.Reader.{at, pushed, Done, Readable, nodesRead};
 
 // How far the reader has come: the records written, and the offset at which the unread text begins.
@@ -39,17 +40,6 @@ fn first(s: &[u8]) -> u8
     if 0 < s.len() { s[0] } else { 0 }
 }
 
-// The kind of the leaf that a byte is.
-fn leaf(b: u8) -> Kind
-    ensures { λ r. ⌜ r ≡ leafKind b ⌝ }
-{
-    match b {
-        b'0' => Kind::Empty,
-        b'1' => Kind::Epsilon,
-        _ => Kind::Letter(b),
-    }
-}
-
 // Writes one record more, where there is room.
 fn push(records: &mut [u64], r: Reading, offset: usize, kind: Kind) -> Reading
     requires { ⌜ length (now records) ≡ 128 ⌝ }
@@ -68,14 +58,14 @@ fn push(records: &mut [u64], r: Reading, offset: usize, kind: Kind) -> Reading
     }
 }
 
-// The reading with one byte more read.
-fn skip(r: Reading) -> Reading
-    requires { ⌜ r .offset < 255 ⌝ }
-    ensures { λ q. ⌜ q ≡ record { written = r .written; offset = r .offset + 1 } ⌝ }
+// The reading with some bytes more read.
+fn skip(r: Reading, width: usize) -> Reading
+    requires { ⌜ r .offset + width ≤ 255 ⌝ }
+    ensures { λ q. ⌜ q ≡ record { written = r .written; offset = r .offset + width } ⌝ }
 {
     Reading {
         written: r.written,
-        offset: r.offset + 1,
+        offset: r.offset + width,
     }
 }
 
@@ -90,7 +80,7 @@ fn read_alt(s: &[u8], r: Reading, records: &mut [u64]) -> Reading
     while first(&s[n..]) == b'|' {
         let offset = q.offset;
         let right = n + 1;
-        let p = read_conj(&s[right..], skip(q), records);
+        let p = read_conj(&s[right..], skip(q, 1), records);
         q = push(records, p, offset, Kind::Union);
         n = q.offset - start;
     }
@@ -108,7 +98,7 @@ fn read_conj(s: &[u8], r: Reading, records: &mut [u64]) -> Reading
     while first(&s[n..]) == b'&' {
         let offset = q.offset;
         let right = n + 1;
-        let p = read_seq(&s[right..], skip(q), records);
+        let p = read_seq(&s[right..], skip(q, 1), records);
         q = push(records, p, offset, Kind::Intersection);
         n = q.offset - start;
     }
@@ -139,7 +129,7 @@ fn read_pre(s: &[u8], r: Reading, records: &mut [u64]) -> Reading
 {
     let start = r.offset;
     if first(s) == b'!' {
-        let p = read_pre(&s[1..], skip(r), records);
+        let p = read_pre(&s[1..], skip(r, 1), records);
         push(records, p, start, Kind::Complement)
     } else {
         read_post(s, r, records)
@@ -156,7 +146,7 @@ fn read_post(s: &[u8], r: Reading, records: &mut [u64]) -> Reading
     let mut n = q.offset - start;
     while first(&s[n..]) == b'*' {
         let offset = q.offset;
-        q = skip(push(records, q, offset, Kind::Star));
+        q = skip(push(records, q, offset, Kind::Star), 1);
         n = q.offset - start;
     }
     q
@@ -168,13 +158,14 @@ fn read_atom(s: &[u8], r: Reading, records: &mut [u64]) -> Reading
     ensures { λ q. ⌜ Done atom (now (s .entry)) (at r (now (records .entry))) (at q (now (records .exit))) ⌝ }
 {
     let start = r.offset;
-    let b = first(s);
-    if b == b'(' {
-        let q = read_alt(&s[1..], skip(r), records);
+    if first(s) == b'(' {
+        let q = read_alt(&s[1..], skip(r, 1), records);
         let n = q.offset - start;
-        if n < s.len() { skip(q) } else { q }
+        if n < s.len() { skip(q, 1) } else { q }
     } else if 0 < s.len() {
-        skip(push(records, r, start, leaf(b)))
+        let leaf = read_leaf(s);
+        let kind = leaf.kind;
+        skip(push(records, r, start, kind), leaf.width)
     } else {
         r
     }

@@ -1,6 +1,8 @@
 // Rule texts: the reader that finds what a text is and writes the records of its nodes.
 pub mod bytes;
+mod leaf;
 pub mod levels;
+pub mod order;
 mod records;
 pub mod scan;
 
@@ -16,7 +18,7 @@ ghost use Rattle.regex.specs.TreeOf.{treeOf};
 ghost use Rattle.regex.specs.declared.ScanResult.the-variants.{Complete};
 ghost use Rattle.rule.specs.declared.Outcome.the-variants.{Refused};
 ghost use Rattle.rule.specs.RuleAnswer.{ruleValues, refusalVerdict, outcomeVerdict, nodeCount, specialCount, unused};
-ghost use Rattle.rule.specs.RuleComputed.{ruleAnswer, sized};
+ghost use Rattle.rule.specs.RuleComputed.{ruleAnswer, ordered};
 ghost use Rattle.rule.specs.RuleMeaning.{RuleMeaning};
 
 // The most that a rule may have.
@@ -32,6 +34,7 @@ pub enum Refusal {
     LongText,
     ForeignByte(usize),
     NoSentence(usize),
+    UnorderedSet(usize),
     ManyNodes,
     ManySpecials,
 }
@@ -69,11 +72,15 @@ pub fn read(text: &[u8]) -> Answer
     }
 }
 
-// A sentence of m nodes, k of them special: refused where there are too many, else read.
+// A sentence of m nodes, k of them special: refused where a set is out of order or there are too many, else read.
 fn read_sentence(text: &[u8], m: usize, k: usize) -> Answer
     requires { ⌜ (length (now text) ≤ 255) × (scanned (now text) ≡ Complete m k) ⌝ }
-    ensures { λ r. ⌜ ruleValues (r .outcome) (r .nodes) ≡ sized (treeOf (now (text .entry))) ⌝ }
+    ensures { λ r. ⌜ ruleValues (r .outcome) (r .nodes) ≡ ordered (now (text .entry)) (treeOf (now (text .entry))) ⌝ }
 {
+    let unordered = order::find_unordered(text);
+    if unordered < text.len() {
+        return refused(Refusal::UnorderedSet(unordered));
+    }
     if MOST_NODES < m {
         return refused(Refusal::ManyNodes);
     }
@@ -109,6 +116,7 @@ pub fn refusal_verdict(refusal: Refusal) -> Verdict
         Refusal::LongText => verdict::refusal(2, 0),
         Refusal::ForeignByte(place) => verdict::refusal(3, place as u64),
         Refusal::NoSentence(place) => verdict::refusal(4, place as u64),
+        Refusal::UnorderedSet(place) => verdict::refusal(20, place as u64),
         Refusal::ManyNodes => verdict::refusal(5, 0),
         Refusal::ManySpecials => verdict::refusal(6, 0),
     }

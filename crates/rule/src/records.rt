@@ -1,6 +1,8 @@
 // Records as numbers, two for each: the offset, and the kind's number.
+use event::sets::LetterSet;
 use regex::Kind;
 use regex::Node;
+use regex::SET_COUNT;
 ghost use mathlib.Core.Path.{_≡_};
 ghost use lib.ListN.{length};
 ghost use Rattle.rule.specs.Reader.{kindOf, nodesOf};
@@ -17,7 +19,9 @@ fn kind_of(number: u64) -> Kind
         4 => Kind::Concatenation,
         5 => Kind::Complement,
         6 => Kind::Star,
-        _ => Kind::Letter((number % 256) as u8),
+        _ => Kind::Letter(LetterSet {
+            bits: number % SET_COUNT,
+        }),
     }
 }
 

@@ -1,17 +1,20 @@
--- `fileAnswer` on the examples of request b), by computation. Assumes nothing.
-use Prim.Native.Nat.{ℕ}
+-- `fileAnswer` on the examples of requests b) and e), by computation. Assumes nothing.
+use Prim.Native.Nat.{ℕ, _+_, _^_}
 use Prim.Native.String.{String}
 use mathlib.Core.Path.{_≡_, refl}
 use mathlib.Core.List.{List, [], _∷_, _++_, map}
 use lib.ListN.{take, replicate}
 use Rattle.event.specs.Event.{isEvent}
 use Rattle.event.specs.Leading.{leading}
+use Rattle.event.specs.LetterSets.{gathered, bitOf}
 use Rattle.event.specs.Text.{bytes}
 use Rattle.regex.specs.KindNumber.{kindNumber}
 use Rattle.regex.specs.Tree.{records}
+use Rattle.regex.specs.Leaves.{leafAt}
 use Rattle.regex.specs.Parse.{parse}
 use Rattle.regex.specs.Scan.{scanFrom}
 use Rattle.regex.specs.TreeOf.{treeOf}
+use Rattle.regex.specs.OrderComputed.{unorderedFrom}
 use Rattle.regex.specs.declared.Node.{Node}
 use Rattle.replacement.specs.Replaced.{isLower}
 use Rattle.replacement.specs.Pieces.{nameLength, piecesFrom, shapeOf, filled}
@@ -54,6 +57,10 @@ cases =
     ∷ (two "a" "<y>|", 4, 2, []) ∷ (two "a" "<x>|", 4, 2, [])
     -- 17: its own name, a later line's
     ∷ (two "a" "<y>", 17, 2, []) ∷ (two "<y>" "a", 17, 1, [])
+    -- 20, after 4 and 17 and before 5; sets
+    ∷ (two "[ab]" "<x>.", 0, 0, (1, 0) ∷ (3, 0) ∷ []) ∷ (two "[ab]" "<x>[ba]", 20, 2, []) ∷ (two "[ba]" "<x>", 20, 1, [])
+    ∷ (two "a" "[<x>]", 4, 2, []) ∷ (two "a" "[ba]|", 4, 2, []) ∷ (two "a" "[ba]<y>", 17, 2, [])
+    ∷ (line "x" "aaaaaaaa" ++ line "y" "<x><x><x><x>" ++ line "z" "<y><y>[aa]", 20, 3, [])
     -- 6, of the replaced text
     ∷ (two "!!!!a" "!!!!<x>", 6, 2, []) ∷ (two "!!!!a" "!!!<x>", 0, 0, (5, 4) ∷ (8, 7) ∷ [])
     -- 19: one byte of a 17th line
@@ -63,19 +70,23 @@ worked : Case → Case
 worked c = let a = fileAnswer (c .0) in (c .0, a .number, a .place, map (λ (l : LineNodes). (l .m, l .k)) (take (a .r) (a .lines)))
 
 edges : map worked cases ≡ cases
-unfolding fileFrom judged isLine has textOf knows nameLength piecesFrom shapeOf filled isLower leading isEvent scanFrom treeOf parse cases worked line
+unfolding fileFrom judged isLine has textOf knows nameLength piecesFrom shapeOf filled isLower leading isEvent scanFrom treeOf parse leafAt unorderedFrom cases worked line
 edges = refl
 
 -- the records, as offset and kind number
 told : LineNodes → List (ℕ × ℕ)
 told l = map (λ (n : Node). (n .offset, kindNumber (n .kind))) (take (l .m) (l .nodes))
 
+-- a set of the letter at one place
+set : ℕ → ℕ
+set i = 9223372036854775808 + 2 ^ i
+
 first-file : map told (take 2 (fileAnswer (two "a|b" "<x>c") .lines))
-    ≡ ((0, 97) ∷ (2, 98) ∷ (1, 2) ∷ []) ∷ ((1, 97) ∷ (3, 98) ∷ (2, 2) ∷ (5, 99) ∷ (5, 4) ∷ []) ∷ []
-unfolding fileFrom judged isLine has textOf knows nameLength piecesFrom shapeOf filled isLower leading isEvent scanFrom treeOf parse records line told
+    ≡ ((0, set 26) ∷ (2, set 27) ∷ (1, 2) ∷ []) ∷ ((1, set 26) ∷ (3, set 27) ∷ (2, 2) ∷ (5, set 28) ∷ (5, 4) ∷ []) ∷ []
+unfolding fileFrom judged isLine has textOf knows nameLength piecesFrom shapeOf filled isLower leading isEvent scanFrom treeOf parse leafAt unorderedFrom records line told set gathered bitOf
 first-file = refl
 
 second-file : map told (take 2 (fileAnswer (two "a" "!<x>&<x><x>*") .lines))
-    ≡ ((0, 97) ∷ []) ∷ ((2, 97) ∷ (0, 5) ∷ (6, 97) ∷ (9, 97) ∷ (11, 6) ∷ (8, 4) ∷ (4, 3) ∷ []) ∷ []
-unfolding fileFrom judged isLine has textOf knows nameLength piecesFrom shapeOf filled isLower leading isEvent scanFrom treeOf parse records line told
+    ≡ ((0, set 26) ∷ []) ∷ ((2, set 26) ∷ (0, 5) ∷ (6, set 26) ∷ (9, set 26) ∷ (11, 6) ∷ (8, 4) ∷ (4, 3) ∷ []) ∷ []
+unfolding fileFrom judged isLine has textOf knows nameLength piecesFrom shapeOf filled isLower leading isEvent scanFrom treeOf parse leafAt unorderedFrom records line told set gathered bitOf
 second-file = refl

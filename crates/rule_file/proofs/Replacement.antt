@@ -1,20 +1,22 @@
 -- What is said of a line that has passed: its replaced text is one, and is read as the line's tree. Assumes nothing.
 use Prim.Native.Nat.{ℕ}
 use mathlib.Core.Path.{_≡_, sym, ap, subst, _∙_}
-use mathlib.Core.Logic.{_⊎_, inl, inr}
-use mathlib.Core.List.{List, [], _∷_, List·Memᴰ, List·Memᴰ·cases-cons, List·Memᴰ·not-nil}
+use mathlib.Core.Logic.{_⊎_, inl, inr, ⊎-elim}
+use mathlib.Core.List.{List, [], _∷_, List·Memᴰ, List·Memᴰ·cases-cons, List·Memᴰ·not-nil, List·Memᴰ·append-cases}
 use Rattle.regex.specs.Tree.{Tree}
 use Rattle.regex.specs.Grammar.{Alt, Reads}
 use Rattle.regex.specs.Lang.{Lang}
+use Rattle.regex.specs.Unordered.{Ordered}
 use Rattle.regex.proofs.OneReading.{one-reading}
 use Rattle.replacement.specs.Replaced.{Replaced}
 use Rattle.replacement.proofs.Grafted.{filled-is}
+use Rattle.replacement.proofs.Ordering.{replaced-ordered}
 use Rattle.rule_line.specs.Lines.{Line}
 use Rattle.rule_line.specs.LineMeaning.{StandsFor}
 use Rattle.rule_line.specs.LineComputed.{textOf}
 use Rattle.rule_line.specs.Keeping.{AllRead}
 use Rattle.rule_line.proofs.LineNames.{stands-is}
-use Rattle.rule_file.specs.FileMeaning.{Passed}
+use Rattle.rule_file.specs.FileMeaning.{Passed, start, next}
 use Rattle.rule_file.proofs.FileAnswered.{passed-sound}
 
 -- ---- the replaced text of a line is determined
@@ -41,3 +43,13 @@ line-reads {ls = ls} p l h = line-read ls (passed-sound p .read) l h
 pub line-language : {file text : List ℕ} {ls : List Line} → Passed file ls text → (l : Line) → List·Memᴰ l ls → (t : Tree) → Reads Alt 0 (l .text) t
     → Lang t ≡ Lang (l .tree)
 line-language p l h t r = ap Lang (one-reading r (line-reads p l h))
+
+-- 02 e): a line that has passed has no letter out of order, as it is written and as it is replaced
+pub line-ordered : {file text : List ℕ} {ls : List Line} → Passed file ls text → (l : Line) → List·Memᴰ l ls → Ordered (l .text)
+line-ordered start l h = absurd (List·Memᴰ·not-nil h)
+line-ordered (next {ls = ls} {n = n} {u = u} {t = t} p a r o m k) l h =
+    ⊎-elim (λ x. line-ordered p l x)
+    (λ x. ⊎-elim
+    (λ (e : l ≡ record { name = n; text = u; tree = t }). subst (λ (z : Line). Ordered (z .text)) (sym e) (replaced-ordered (λ n v (x : StandsFor ls n v). subst Ordered (x .text) (line-ordered p (x .line) (x .earlier))) (r .replaced) o))
+    (λ y. absurd (List·Memᴰ·not-nil y)) (List·Memᴰ·cases-cons x))
+    (List·Memᴰ·append-cases ls h)

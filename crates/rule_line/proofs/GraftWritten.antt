@@ -10,7 +10,7 @@ use Rattle.event.specs.Event.{isEvent}
 use Rattle.event.proofs.Tests.{T-of}
 use Rattle.regex.specs.Tree.{Tree, records, nodeRecord}
 use Rattle.regex.specs.Grammar.{Level, Reads, alt-conj, alt-bar, conj-seq, conj-amp, seq-pre, seq-more, pre-post, pre-bang, post-atom}
-use Rattle.regex.specs.Grammar.{post-star, atom-letter, atom-empty, atom-epsilon, atom-group}
+use Rattle.regex.specs.Grammar.{post-star, atom-letter, atom-any, atom-set, atom-empty, atom-epsilon, atom-group}
 use Rattle.regex.specs.declared.Kind.{Kind}
 use Rattle.regex.specs.declared.Kind.the-variants.{Empty, Epsilon, Letter, Union, Intersection, Concatenation, Complement, Star}
 use Rattle.regex.specs.declared.Node.{Node}
@@ -82,6 +82,8 @@ offsets-below {o = o} (post-star {u = u} {t = t} r) =
     let n = o + length (u ++ 42 ∷ []) in
     below-append n (records t) (nodeRecord (o + length u) Star) (below-more (o + length u) n (omega arith) (records t) (offsets-below r)) (omega arith, tt)
 offsets-below (atom-letter h) = (omega arith, tt)
+offsets-below atom-any = (omega arith, tt)
+offsets-below (atom-set u h e) = (omega arith, tt)
 offsets-below atom-empty = (omega arith, tt)
 offsets-below atom-epsilon = (omega arith, tt)
 offsets-below {o = o} (atom-group {u = u} {t = t} r) =

@@ -14,6 +14,7 @@ use Rattle.event.proofs.Tests.{and-split, T-of, of-T}
 use Rattle.regex.specs.Tree.{size, specials, records}
 use Rattle.regex.specs.Scan.{scanned}
 use Rattle.regex.specs.TreeOf.{treeOf}
+use Rattle.regex.specs.OrderComputed.{unorderedAt}
 use Rattle.regex.specs.declared.Kind.the-variants.{Empty}
 use Rattle.regex.specs.declared.Node.{Node}
 use Rattle.regex.specs.declared.ScanResult.{ScanResult}
@@ -32,8 +33,8 @@ use Rattle.rule_line.specs.declared.text.RuleRead.{RuleRead}
 use Rattle.rule_line.specs.declared.text.RuleOutcome.{RuleOutcome}
 use Rattle.rule_line.specs.declared.text.RuleOutcome.the-variants.{Refused}
 use Rattle.rule_line.specs.declared.Refusal.{Refusal}
-use Rattle.rule_line.proofs.Coded.{Coded, coded-broken, coded-unknown, coded-bound, coded}
-use Rattle.rule_line.proofs.JudgedLaws.{legal}
+use Rattle.rule_line.proofs.Coded.{Coded, coded-broken, coded-unknown, coded-unordered, coded-bound, coded}
+use Rattle.rule_line.proofs.JudgedLaws.{legal, in-order}
 use Rattle.rule_line.proofs.StoredLines.{Good, good-at, all-written}
 
 known-each : (r : ℕ) (os : List ℕ) → knownIn r os ≡ true → (j : ℕ) → getD os j 0 ≤ r
@@ -100,6 +101,12 @@ module _ (file : List ℕ) (r : ℕ) (names facts : List ℕ) (lines : List Line
       coded-unknown ls s (k .sound) lawful (nameAt file names) (k .named) (take n shape') (take n origins) n taken (of-shape e) (in-lines g)
 
   module _ {m c₀ : ℕ} (e : scanned (take n shape') ≡ Complete m c₀) (g₀ : knownIn r (take n origins) ≡ true) where
+    -- 20
+    pub judged-unordered : {f : ℕ} → f ≡ unorderedAt s → f < length s → judged ls s ≡ bad 20
+    judged-unordered {f} z h =
+        coded-unordered ls s (k .sound) lawful (nameAt file names) (k .named) (take n shape') (take n origins) n taken (of-shape e) (in-lines g₀)
+        (omega arith)
+
     abbrev sums : Sums
     sums = sumsOf facts (take n origins)
 
@@ -146,20 +153,24 @@ module _ (file : List ℕ) (r : ℕ) (names facts : List ℕ) (lines : List Line
     k-replaced = c₀ + sums .specials
 
     -- 5, 6, or the line has passed
-    pub says : (q : RuleRead) → SentenceSays (take n shape') (take n origins) m c₀ facts lines q → RuleSays ls s (q .outcome) (q .nodes)
-    says q a = subst (λ (o : RuleOutcome). RuleSays ls s o (q .nodes)) (sym (a .outcome)) (go (decLe m-replaced 64) (decLe k-replaced 7))
+    pub says : {i : ℕ} → i ≡ unorderedAt s → length s ≤ i → (q : RuleRead) → SentenceSays (take n shape') (take n origins) m c₀ facts lines q
+        → RuleSays ls s (q .outcome) (q .nodes)
+    says {i} u o q a = subst (λ (o : RuleOutcome). RuleSays ls s o (q .nodes)) (sym (a .outcome)) (go (decLe m-replaced 64) (decLe k-replaced 7))
       where
+        rises : length s ≤ unorderedAt s
+        rises = omega arith
+
         go : Dec (m-replaced ≤ 64) → Dec (k-replaced ≤ 7) → RuleSays ls s (sizedRule m-replaced k-replaced (sums .length)) (q .nodes)
         go (no x) y =
             let f = found (a .places) (a .summed) in
             let h : 64 < size (treeOf replaced) = omega (arith, f .nodes) in
-            rw (lt-ltb 64 m-replaced (omega arith)) (f .same ∙ rw (lt-ltb 64 (size (treeOf replaced)) h))
+            rw (lt-ltb 64 m-replaced (omega arith)) (f .same ∙ in-order s rises ∙ rw (lt-ltb 64 (size (treeOf replaced)) h))
         go (yes x) (no y) =
             let f = found (a .places) (a .summed) in
             let t = treeOf replaced in
             let h : size t ≤ 64 = omega (arith, f .nodes) in
             let g : 7 < specials t = omega (arith, f .special) in
-            rw (le-ltb 64 m-replaced x, lt-ltb 7 k-replaced (omega arith)) (f .same ∙ rw (le-ltb 64 (size t) h, lt-ltb 7 (specials t) g))
+            rw (le-ltb 64 m-replaced x, lt-ltb 7 k-replaced (omega arith)) (f .same ∙ in-order s rises ∙ rw (le-ltb 64 (size t) h, lt-ltb 7 (specials t) g))
         go (yes x) (yes y) =
             let f = found (a .places) (a .summed) in
             let t = treeOf replaced in
@@ -175,7 +186,7 @@ module _ (file : List ℕ) (r : ℕ) (names facts : List ℕ) (lines : List Line
             (record {
               text = replaced;
               tree = t;
-              same = f .same ∙ rw (le-ltb 64 (size t) h, le-ltb 7 (specials t) g);
+              same = f .same ∙ in-order s rises ∙ rw (le-ltb 64 (size t) h, le-ltb 7 (specials t) g);
               line-is = cc;
               long-is = sym (f .long);
               reads = f .reads;

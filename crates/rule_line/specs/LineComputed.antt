@@ -9,6 +9,7 @@ use Rattle.event.specs.Text.{notNewline}
 use Rattle.regex.specs.Tree.{Tree, size, specials}
 use Rattle.regex.specs.TreeOf.{treeOf}
 use Rattle.regex.specs.Scan.{isSentence}
+use Rattle.regex.specs.OrderComputed.{unorderedAt}
 use Rattle.replacement.specs.Pieces.{Piece, own, named, nameLength, pieces, shape, filled}
 use Rattle.rule_line.specs.Lines.{Line}
 use Rattle.rule_line.specs.LineMeaning.{isWritten}
@@ -62,13 +63,17 @@ pub data Judged : Type 0 where
 abbrev pub sized : List ℕ → Tree → Judged
 sized u t = cond (ltb 64 (size t)) (bad 5) (cond (ltb 7 (specials t)) (bad 6) (good u t))
 
+-- 02 e), number 20: "after 4 and 17"
+abbrev pub ordered : List ℕ → Judged → Judged
+ordered s r = cond (ltb (unorderedAt s) (length s)) (bad 20) r
+
 abbrev pub replacedBy : List Line → List ℕ → List ℕ
 replacedBy ls s = filled (textOf ls) (pieces s)
 
 unfoldable pub judged : List Line → List ℕ → Judged
 judged ls s =
     let u = replacedBy ls s in
-    let r = sized u (treeOf u) in
+    let r = ordered s (sized u (treeOf u)) in
     cond (eqb (length s) 0) (bad 1)
     (cond (ltb 255 (length s)) (bad 2)
     (cond (ltb (leading isWritten s) (length s)) (bad 3)

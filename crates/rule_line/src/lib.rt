@@ -18,6 +18,7 @@ pub enum Refusal {
     ForeignByte,
     NoSentence,
     UnknownName,
+    UnorderedSet,
     ManyNodes,
     ManySpecials,
 }

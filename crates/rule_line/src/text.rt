@@ -8,6 +8,7 @@ use crate::sums::sum_pieces;
 use regex::Kind;
 use regex::Node;
 use regex::ScanResult;
+use rule::order::find_unordered;
 ghost use mathlib.Core.Path.{_≡_};
 ghost use mathlib.Core.List.{List};
 ghost use lib.ListN.{length};
@@ -90,6 +91,9 @@ pub fn read_rule(
         ScanResult::Broken(_) => refused_rule(Refusal::NoSentence),
         ScanResult::Complete(m, k) => {
             if all_known(&origins[..n], r) {
+                if find_unordered(text) < text.len() {
+                    return refused_rule(Refusal::UnorderedSet);
+                }
                 return read_sentence(&shape[..n], &origins[..n], m, k, facts, lines);
             }
             refused_rule(Refusal::UnknownName)

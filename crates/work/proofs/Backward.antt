@@ -1,4 +1,5 @@
 -- What is closed under the moves and holds the entries holds all of At's places. Assumes nothing.
+use mathlib.Core.Path.{sym, subst}
 use mathlib.Core.Logic.{_⊎_, inl, inr}
 use Prim.Native.Nat.{ℕ, zero, suc, _+_, _≤_}
 use native.Mathlib.Omega.{arith}
@@ -11,7 +12,7 @@ use Rattle.work.specs.Span.{Obeys}
 use Rattle.work.specs.Walk.{entry, exit, Part, itself, union-left, union-right, concatenation-left, concatenation-right, star-inner, NodeMove}
 use Rattle.work.specs.Walk.{epsilon-through, letter-use, union-to-left, union-to-right, union-left-out, union-right-out, concatenation-in}
 use Rattle.work.specs.Walk.{concatenation-over, concatenation-out, star-in, star-skip, star-again, star-out, intersection-span, complement-span}
-use Rattle.work.specs.Walk.{RuleMove}
+use Rattle.work.specs.Walk.{RuleMove, Fits}
 use Rattle.work.proofs.At.{Exit, Own, Under, At}
 use Rattle.work.proofs.Moves.{by-root, by-part}
 use Rattle.work.proofs.Slices.{split-span, slice-nil, one-slice, obeys-concatenation}
@@ -64,8 +65,9 @@ module _ (w : Word) (R : ℕ → ℕ → Type 0) where
   through (empty o) x c j k h r = absurd (h .word)
   through (epsilon o) x c j k h r = rw (slice-nil w j k (h .order) (h .inside) (h .word)) (move-on c epsilon-through r)
   through (letter o l) x c j k h r =
-      let p = one-slice w j k l (h .order) (h .inside) (h .word) in
-      rw (p .0) (move-on c (letter-use (omega (arith, h .inside, p .0)) (p .1)) r)
+      let (y, e, f) = h .word in
+      let p = one-slice w j k y (h .order) (h .inside) e in
+      rw (p .0) (move-on c (letter-use (omega (arith, h .inside, p .0)) (subst (Fits l) (sym (p .1)) f)) r)
   through (union o a b) x c j k h r =
       through-union o a b x c (through a x (part-closed (union-left itself) c))
       (through b (x + size a) (part-closed (union-right itself) c))

@@ -5,9 +5,12 @@ use mathlib.Core.Option.{Option, none, some}
 use mathlib.Core.Bool.{Bool, true, _&&_}
 use Prim.Native.Nat.{ℕ}
 use lib.Dec.{T}
+use Rattle.bits.specs.Bit.{hasBit}
 use Rattle.event.specs.Event.{isEvent}
+use Rattle.event.specs.LetterSets.{holds, bitOf}
 use Rattle.event.specs.Text.{bytes}
 use Rattle.regex.specs.Accept.{accepts}
+use Rattle.regex.specs.Leaves.{leafAt}
 use Rattle.regex.specs.Parse.{parse}
 use Rattle.regex.specs.TreeOf.{treeOf}
 use Rattle.regex.specs.Scan.{scanFrom, isSentence}
@@ -36,5 +39,5 @@ days-sentences = tt
 
 -- worked out anew, the days are as they were written
 pub days-worked : map worked days ≡ days
-unfolding treeOf parse isEvent obeying accepts fullCount
+unfolding treeOf parse leafAt isEvent holds bitOf hasBit obeying accepts fullCount
 days-worked = refl

@@ -40,7 +40,7 @@ module _ (w : Word) where
   own-closed : {t : Tree} {x s j s′ j′ : ℕ} → NodeMove w t x s j s′ j′ → (E : ℕ → Type 0) → Bounded w E → At w t x E s j → At w t x E s′ j′
   own-closed (epsilon-through {o} {x} {j}) E β h =
       let e = at-entry w (epsilon o) x E j h in inl (inr (refl, (j, e, epsilon-obeys w o j (β j e))))
-  own-closed (letter-use {o} {c} {x} {j} l q) E β h =
+  own-closed (letter-use {o} {x} {j} {c} l q) E β h =
       inl (inr (refl, (j, at-entry w (letter o c) x E j h, letter-obeys w o c j l q)))
   own-closed (union-to-left {o} {x} {j} {a} {b}) E β h = inr (inl (inl (inl (refl, at-entry w (union o a b) x E j h))))
   own-closed (union-to-right {o} {x} {j} {a} {b}) E β h = inr (inr (inl (inl (refl, at-entry w (union o a b) x E j h))))

@@ -1,6 +1,7 @@
 -- Laws of spans, of the walk and its count, and of the span table.
 pub mod DaysWorked
 pub mod Edges
+pub mod OneLetter
 pub mod Slices
 pub mod Moves
 pub mod At

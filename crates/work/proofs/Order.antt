@@ -9,7 +9,7 @@ use lib.Dec.{T}
 use lib.ListN.{length, length-append}
 use Rattle.regex.specs.Tree.{Tree, empty, epsilon, letter, union, intersection, concatenation, complement, star, offset, size, isSpecial}
 use Rattle.regex.specs.Grammar.{Level, Alt, Reads, alt-conj, alt-bar, conj-seq, conj-amp, seq-pre, seq-more, pre-post, pre-bang, post-atom, post-star}
-use Rattle.regex.specs.Grammar.{atom-letter, atom-empty, atom-epsilon, atom-group}
+use Rattle.regex.specs.Grammar.{atom-letter, atom-any, atom-set, atom-empty, atom-epsilon, atom-group}
 use Rattle.work.specs.Walk.{Part, itself, union-left, union-right, intersection-left, intersection-right, concatenation-left}
 use Rattle.work.specs.Walk.{concatenation-right, complement-inner, star-inner}
 use Rattle.work.specs.Table.{SpecialPart, Rising}
@@ -56,6 +56,8 @@ rising (post-atom r) = rising r
 rising {o = o} (post-star {u = u} {t = t} p) = wider o o (o + length u) _ (specialParts t) (omega arith)
     (omega (arith, length-append u (42 ∷ []))) (rising p)
 rising (atom-letter h) = omega arith
+rising atom-any = omega arith
+rising (atom-set u l h) = omega arith
 rising atom-empty = omega arith
 rising atom-epsilon = omega arith
 rising {o = o} (atom-group {u = u} {t = t} p) = wider (o + 1) o (o + 1 + length u) _ (specialParts t) (omega arith)

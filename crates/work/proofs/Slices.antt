@@ -3,10 +3,13 @@ use mathlib.Core.Path.{_≡_, refl, sym, ap, subst, _∙_}
 use mathlib.Core.List.{[], _∷_, _++_, cons-eq-cons}
 use Prim.Native.Nat.{ℕ, suc, _+_, _-_, _≤_, _<_}
 use native.Mathlib.Omega.{arith}
+use lib.Dec.{T}
 use lib.ListN.{length, getD, take, drop, length-append, take-append-drop}
 use lib.Seq.{slice, slice-empty, slice-cons, length-slice, take-take, length-take-le, drop-append-le, take-at, drop-at}
 use Rattle.regex.specs.Tree.{Tree, epsilon, letter, concatenation, star}
 use Rattle.event.specs.Event.{Word}
+use Rattle.event.specs.LetterSets.{holds}
+use Rattle.event.specs.declared.sets.LetterSet.{LetterSet}
 use Rattle.work.specs.Span.{Obeys}
 
 pub slice-join : (w : Word) (j k l : ℕ) → j ≤ k → k ≤ l → l ≤ length w → slice j k w ++ slice k l w ≡ slice j l w
@@ -59,8 +62,8 @@ one-slice w j k c p r e =
 pub epsilon-obeys : (w : Word) (o j : ℕ) → j ≤ length w → Obeys w (epsilon o) j j
 epsilon-obeys w o j h = record { order = omega arith; inside = h; word = slice-empty j w }
 
-pub letter-obeys : (w : Word) (o c j : ℕ) → j < length w → getD w j 0 ≡ c → Obeys w (letter o c) j (suc j)
-letter-obeys w o c j h e = record { order = omega arith; inside = h; word = slice-one w j h ∙ ap (_∷ []) e }
+pub letter-obeys : (w : Word) (o : ℕ) (c : LetterSet) (j : ℕ) → j < length w → T (holds c (getD w j 0)) → Obeys w (letter o c) j (suc j)
+letter-obeys w o c j h e = record { order = omega arith; inside = h; word = (getD w j 0, slice-one w j h, e) }
 
 pub concatenation-obeys : (w : Word) (o : ℕ) (a b : Tree) (j k l : ℕ) → Obeys w a j k → Obeys w b k l → Obeys w (concatenation o a b) j l
 concatenation-obeys w o a b j k l p q =

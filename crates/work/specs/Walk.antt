@@ -1,8 +1,10 @@
 -- The walk that is counted, as document 01 words it. Assumes nothing.
-use mathlib.Core.Path.{_≡_}
 use Prim.Native.Nat.{ℕ, suc, _+_, _*_, _≤_, _<_}
+use lib.Dec.{T}
 use lib.ListN.{length, getD}
 use Rattle.event.specs.Event.{Word}
+use Rattle.event.specs.LetterSets.{holds}
+use Rattle.event.specs.declared.sets.LetterSet.{LetterSet}
 use Rattle.regex.specs.Tree.{Tree, epsilon, letter, union, intersection, concatenation, complement, star, below, size}
 use Rattle.work.specs.Span.{Obeys}
 
@@ -27,9 +29,9 @@ pub data Part : Tree → ℕ → Tree → ℕ → Type 0 where
   complement-inner : {o x y : ℕ} {a u : Tree} → Part a x u y → Part (complement o a) x u y
   star-inner : {o x y : ℕ} {a u : Tree} → Part a x u y → Part (star o a) x u y
 
--- "if that is the letter": the event x is the letter c
-abbrev pub Fits : ℕ → ℕ → Type 0
-Fits c x = x ≡ c
+-- 02 e), for 01's "if that is the letter": "The walk moves if the next event is in the set": the event x is in the set c
+abbrev pub Fits : LetterSet → ℕ → Type 0
+Fits c x = T (holds c x)
 
 -- the moves that the root of a part brings: from a state and a number of used events to a state and a number
 pub data NodeMove (w : Word) : Tree → ℕ → ℕ → ℕ → ℕ → ℕ → Type 0 where
@@ -49,8 +51,8 @@ pub data NodeMove (w : Word) : Tree → ℕ → ℕ → ℕ → ℕ → ℕ → 
   star-skip : {o x j : ℕ} {a : Tree} → NodeMove w (star o a) x (entry (star o a) x) j (exit (star o a) x) j
   star-again : {o x j : ℕ} {a : Tree} → NodeMove w (star o a) x (exit a x) j (entry a x) j
   star-out : {o x j : ℕ} {a : Tree} → NodeMove w (star o a) x (exit a x) j (exit (star o a) x) j
-  -- "A letter moves entry to exit by using the next event, if that is the letter."
-  letter-use : {o c x j : ℕ} → j < length w → Fits c (getD w j 0)
+  -- "A letter moves entry to exit by using the next event", if that is in its set
+  letter-use : {o x j : ℕ} {c : LetterSet} → j < length w → Fits c (getD w j 0)
       → NodeMove w (letter o c) x (entry (letter o c) x) j (exit (letter o c) x) (suc j)
   -- "At the entry of a special node at number j it goes to that node's exit at each j' for which the span (j, j') obeys that node's rule."
   intersection-span : {o x j k : ℕ} {a b : Tree} → Obeys w (intersection o a b) j k

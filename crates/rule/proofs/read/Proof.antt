@@ -29,6 +29,7 @@ read-spec =
     with-meaning (v ∙ ap (refusal 3) (f .ensures) ∙ sym (at-foreign s (omega arith, omega arith) (omega arith))))
     (λ c κs. search needs)
     (λ c. search needs)
+    -- no sentence, or one
     (λ c κs. tt)
     (λ c. search needs)
     (λ c κs. (omega arith, sym (c .before .before .before .scan .ensures) ∙ c .before .m .given .1))

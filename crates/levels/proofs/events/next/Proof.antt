@@ -1,4 +1,4 @@
--- `next` moves the entries of the letters that an event is up to their exits. Assumes nothing.
+-- `next` moves the entries of the nodes that fit an event up to their exits. Assumes nothing.
 use Prim.Native.Nat.{_+_, _*_}
 use mathlib.Core.Path.{refl}
 use lib.ListN.{getD}

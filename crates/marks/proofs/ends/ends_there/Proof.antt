@@ -1,4 +1,4 @@
--- `ends_there` looks for special nodes, and for letters that the next event is. Assumes nothing.
+-- `ends_there` looks for special nodes, and for nodes that fit the next event. Assumes nothing.
 use mathlib.Core.Path.{_≡_, refl, sym, _∙_}
 use mathlib.Core.Bool.{true, false≢true}
 use mathlib.Core.Logic.{⊎-elim}

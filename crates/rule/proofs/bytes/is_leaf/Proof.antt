@@ -9,4 +9,7 @@ is-leaf-spec =
     (λ c κs. tt)
     (λ c. simp (c .match .keys1))
     (λ c. simp (c .match .keys2))
-    (λ c. simp (c .is-event .ensures, ne-eqb _ _ (c .before .match .rest .0 .1), ne-eqb _ _ (c .before .match .rest .1))))
+    (λ c. simp (c .match .keys3))
+    (λ c.
+    let n = c .before .match .rest in
+    simp (c .is-event .ensures, ne-eqb _ _ (n .0 .0 .1), ne-eqb _ _ (n .0 .1), ne-eqb _ _ (n .1))))

@@ -19,11 +19,17 @@ is-rule-byte-spec =
     (λ c. sym (ap isRuleByte (c .match .keys6) ∙ rw (reserved-foreign 42 tt)))
     (λ c. sym (ap isRuleByte (c .match .keys7) ∙ rw (reserved-foreign 40 tt)))
     (λ c. sym (ap isRuleByte (c .match .keys8) ∙ rw (reserved-foreign 41 tt)))
+    (λ c. sym (ap isRuleByte (c .match .keys9) ∙ rw (reserved-foreign 91 tt)))
+    (λ c. sym (ap isRuleByte (c .match .keys10) ∙ rw (reserved-foreign 93 tt)))
+    (λ c. sym (ap isRuleByte (c .match .keys11) ∙ rw (reserved-foreign 46 tt)))
     (λ c.
     let n = c .before .match .rest in
     simp (
       c .is-event .ensures,
       or-false,
+      ne-eqb _ _ (n .0 .0 .0 .0 .0 .0 .0 .0 .0 .0 .1),
+      ne-eqb _ _ (n .0 .0 .0 .0 .0 .0 .0 .0 .0 .1),
+      ne-eqb _ _ (n .0 .0 .0 .0 .0 .0 .0 .0 .1),
       ne-eqb _ _ (n .0 .0 .0 .0 .0 .0 .0 .1),
       ne-eqb _ _ (n .0 .0 .0 .0 .0 .0 .1),
       ne-eqb _ _ (n .0 .0 .0 .0 .0 .1),

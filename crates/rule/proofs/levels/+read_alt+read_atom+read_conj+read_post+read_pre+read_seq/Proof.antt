@@ -9,6 +9,8 @@ use borrow.Author.Needs.{needs}
 use borrow.Fn.Kinds.{In}
 use borrow.Fn.PlainCycle.{Measures, is, falls, and}
 use Rattle.regex.specs.Parse.{Call, alt, altRest, conj, conjRest, seq, seqRest, pre, post, postRest, atom, measure}
+use Rattle.regex.specs.declared.Leaf.{Leaf}
+use Rattle.regex.proofs.LeafLaws.{leaf-fits}
 use Rattle.rule.specs.Reader.{at}
 use Rattle.rule.specs.declared.levels.Reading.{Reading}
 use Rattle.event.proofs.Tails.{tail-length}
@@ -29,7 +31,7 @@ use Rattle.rule.proofs.levels.+read_alt+read_atom+read_conj+read_post+r
 use Rattle.rule.proofs.levels.read_seq.Reads as seq-reads
 use Rattle.rule.proofs.levels.+read_alt+read_atom+read_conj+read_post+read_pre+read_seq.Lts-read_seq as seq-lts
 use Rattle.rule.proofs.levels.first.Reads as first
-use Rattle.rule.proofs.levels.leaf.Reads as leaf
+use Rattle.rule.proofs.leaf.read_leaf.Reads as read-leaf
 use Rattle.rule.proofs.levels.push.Reads as push
 use Rattle.rule.proofs.levels.skip.Reads as skip
 use Rattle.rule.proofs.bytes.is_start.Reads as is-start
@@ -126,8 +128,8 @@ pub +read-alt+read-atom+read-conj+read-post+read-pre+read-seq-spec : {M : Type 1
       skip.Learnt,
       below alt alt-reads.Pre t,
       alt-reads.Post,
-      leaf.Asked,
-      leaf.Learnt,
+      read-leaf.Asked,
+      read-leaf.Learnt,
       push.Asked,
       push.Learnt,
     )
@@ -155,9 +157,16 @@ pub +read-alt+read-atom+read-conj+read-post+read-pre+read-seq-spec : {M : Type 1
     let m = tail-length 1 s in
     let e = ap offset (c .before .before .before .before .before .before .skip .ensures) in
     omega (arith, n))
-    (λ c κs. tt)
+    (λ c κs. (c .if3 .taken, omega arith))
     (λ c κs. c .before .before .before .before .before .before .before .pre .1 .1)
-    (λ c κs. let o = same-offset (c .before .before .push .ensures) in omega arith)
+    (λ c κs.
+    let l = c .before .before .before .before in
+    let d = l .before .before .before .before .before in
+    let s = d .before .args .s .now in
+    let o = same-offset (c .before .before .push .ensures) in
+    let m = leaf-fits s (l .before .if3 .taken) in
+    let w = ap (λ (y : Leaf). y .width) (l .read-leaf .ensures) in
+    omega (arith, m))
     (λ c. c .before .before .before .before .before .read-alt .kept .1 .1 .0)
     (λ c.
     let q = c .before .before .before .before .before in
@@ -177,9 +186,10 @@ pub +read-alt+read-atom+read-conj+read-post+read-pre+read-seq-spec : {M : Type 1
     (λ c. c .before .before .before .push .kept .0)
     (λ c.
     let p = c .before .before .before in
-    let h = p .before .before .before in
+    let l = p .before .before in
+    let h = l .before in
     let d = h .before in
-    leaf-done (d .before .first .ensures) (d .if1 .left) (h .if3 .taken) (p .before .leaf .ensures) (p .push .ensures)
+    leaf-done (d .before .first .ensures) (d .if1 .left) (h .if3 .taken) (l .read-leaf .ensures) (p .push .ensures)
     (named (p .push .last .0) (c .skip3 .ensures)))
     (λ c. let d = c .before in atom-ends (d .before .first .ensures) (d .if1 .left) (c .if3 .left)))
     (λ t.

@@ -1,7 +1,6 @@
 -- `kind_of` is `kindOf`. Assumes nothing.
 use mathlib.Core.Path.{sym, ap}
 use borrow.Author.Tests.{ne-eqb}
-use borrow.Author.Needs.{needs}
 use Rattle.rule.specs.Reader.{kindOf}
 use Rattle.rule.proofs.records.kind_of.Statement.{statement}
 use Rattle.rule.proofs.records.kind_of.Tie as tie
@@ -9,7 +8,6 @@ use Rattle.rule.proofs.records.kind_of.Tie as tie
 pub kind-of-spec : {M : Type 1} → statement M
 kind-of-spec =
     tie.close (tie.spec
-    (λ c. search needs)
     (λ c. sym (ap kindOf (c .match .keys1)))
     (λ c. sym (ap kindOf (c .match .keys2)))
     (λ c. sym (ap kindOf (c .match .keys3)))

@@ -3,7 +3,6 @@ use Prim.Native.Nat.{_-_, _*_, _≤_}
 use native.Mathlib.Omega.{arith}
 use mathlib.Core.Path.{_≡_, refl, sym, _∙_}
 use lib.ListN.{length, drop, getD}
-use borrow.Author.Tests.{eq-eqb, ne-eqb}
 use borrow.Author.Needs.{needs}
 use Rattle.regex.specs.Scan.{scanned, scanFrom}
 use Rattle.rule.proofs.ScanLaws.{near, turn-stuck, turn-on, turn-end}
@@ -43,15 +42,7 @@ scan-spec =
       omega arith,
       l .loop .inv .4 ∙ turn-on s (l .loop .i) (l .loop .q) (p .0 .0) (c .before .before .before .before .before .loop-test .taken) on,
     ))
-    (λ c.
-    let l = c .before .before .before in
-    sym (l .loop .inv .4 ∙ turn-end (l .before .before .args .text .now) (l .loop .i) (l .loop .q) (omega arith)
-    ∙ simp (c .before .if1 .taken, eq-eqb _ _ (c .if2 .taken))))
-    (λ c.
-    let l = c .before .before .before in
-    sym (l .loop .inv .4 ∙ turn-end (l .before .before .args .text .now) (l .loop .i) (l .loop .q) (omega arith)
-    ∙ simp (c .before .if1 .taken, ne-eqb _ _ (c .if2 .left))))
+    (λ c κs. tt)
     (λ c.
     let l = c .before .before in
-    sym (l .loop .inv .4 ∙ turn-end (l .before .before .args .text .now) (l .loop .i) (l .loop .q) (omega arith)
-    ∙ simp (c .if1 .left))))
+    sym (l .loop .inv .4 ∙ turn-end (l .before .before .args .text .now) (l .loop .i) (l .loop .q) (omega arith) ∙ sym (c .finish .ensures))))

@@ -22,6 +22,8 @@ step-after-spec =
     (λ c. search needs)
     (λ c. search needs)
     (λ c κs. tt)
+    (λ c. search needs)
+    (λ c κs. tt)
     (λ c κs. tt)
     (λ c. search needs)
     (λ c κs. tt)
@@ -32,11 +34,13 @@ step-after-spec =
     (λ c. simp (c .next4 .ensures, c .before .before .match .keys4, ne-eqb _ _ (c .before .if1 .left)))
     (λ c. simp (c .next5 .ensures, c .before .match .keys5))
     (λ c. simp (c .next6 .ensures, c .before .match .keys6))
+    (λ c. simp (c .next7 .ensures, c .before .match .keys7))
     (λ c. let n = c .before .before .before .match .rest in
     simp (
-      c .next7 .ensures,
+      c .next8 .ensures,
       c .before .if2 .taken,
       ← c .before .before .is-leaf .ensures,
+      ne-eqb _ _ (n .0 .0 .0 .0 .0 .0 .1),
       ne-eqb _ _ (n .0 .0 .0 .0 .0 .1),
       ne-eqb _ _ (n .0 .0 .0 .0 .1),
       ne-eqb _ _ (n .0 .0 .0 .1),
@@ -48,6 +52,7 @@ step-after-spec =
     simp (
       c .if2 .left,
       ← c .before .is-leaf .ensures,
+      ne-eqb _ _ (n .0 .0 .0 .0 .0 .0 .1),
       ne-eqb _ _ (n .0 .0 .0 .0 .0 .1),
       ne-eqb _ _ (n .0 .0 .0 .0 .1),
       ne-eqb _ _ (n .0 .0 .0 .1),
