@@ -10,6 +10,8 @@
 
 enum { MOST_JOB = 4096, COLUMNS = 64, SCANS = 50, OTHER_LETTER = 2 /* foma's number for any symbol it has not seen */ };
 
+static const char LETTERS[] = "ABCDEFGHIJKLMNOPQRSTUVWXYZabcdefghijklmnopqrstuvwxyz";
+
 /* A wild rule is ended by the memory it may have, if not by the bench's time limit. */
 static const rlim_t MOST_MEMORY = (rlim_t)2 << 30;
 
@@ -29,11 +31,31 @@ static const char *rest; /* the unread rest of the rule, which its newline ends 
 
 static struct fsm *read_union(void);
 
+static struct fsm *letter(char byte) {
+    char symbol[2] = {byte, 0};
+    return fsm_symbol(symbol);
+}
+
+/* Any one of some letters, of which there is one at least. */
+static struct fsm *any_of(const char *letters, size_t count) {
+    struct fsm *net = letter(letters[0]);
+    for (size_t i = 1; i < count; i++) net = fsm_union(net, letter(letters[i]));
+    return fsm_minimize(net);
+}
+
+static struct fsm *read_set(void) {
+    const char *letters = rest;
+    rest = strchr(rest, ']') + 1;
+    return any_of(letters, rest - 1 - letters);
+}
+
 static struct fsm *read_atom(void) {
-    char symbol[2] = {*rest++, 0};
-    if (symbol[0] == '0') return fsm_empty_set();
-    if (symbol[0] == '1') return fsm_empty_string();
-    if (symbol[0] != '(') return fsm_symbol(symbol);
+    char first = *rest++;
+    if (first == '0') return fsm_empty_set();
+    if (first == '1') return fsm_empty_string();
+    if (first == '.') return any_of(LETTERS, strlen(LETTERS));
+    if (first == '[') return read_set();
+    if (first != '(') return letter(first);
     struct fsm *inner = read_union();
     rest++;
     return inner;

@@ -4,6 +4,7 @@ pub mod baseline;
 pub mod blocks;
 pub mod job;
 pub mod judge;
+pub mod letters;
 pub mod parse;
 pub mod proved;
 pub mod row;

@@ -1,5 +1,7 @@
 //! Reads a regular expression into its nodes. The text is taken to be an acceptable rule.
 
+use crate::letters::Letters;
+
 /// The most nodes that an acceptable rule has.
 pub const MOST_NODES: usize = 64;
 
@@ -7,7 +9,8 @@ pub const MOST_NODES: usize = 64;
 pub enum Kind {
     Empty,
     Epsilon,
-    Letter(u8),
+    /// A letter, which is a set of one, a set in brackets, or the dot, which is the set of all.
+    Letter(Letters),
     Union,
     Intersection,
     Concatenation,
@@ -72,7 +75,8 @@ impl Parser<'_> {
 
     fn concatenation(&mut self) -> usize {
         let mut left = self.complement();
-        while matches!(self.peek(), b'A'..=b'Z' | b'a'..=b'z' | b'0' | b'1' | b'(' | b'!') {
+        // Whatever else can follow begins one more side.
+        while !matches!(self.peek(), b'|' | b'&' | b')' | 0) {
             let offset = self.at;
             let right = self.complement();
             left = self.add(offset, Kind::Concatenation, left, right);
@@ -109,8 +113,24 @@ impl Parser<'_> {
             }
             b'0' => self.add(offset, Kind::Empty, 0, 0),
             b'1' => self.add(offset, Kind::Epsilon, 0, 0),
-            letter => self.add(offset, Kind::Letter(letter), 0, 0),
+            b'[' => {
+                let letters = self.bracketed();
+                self.add(offset, Kind::Letter(letters), 0, 0)
+            }
+            b'.' => self.add(offset, Kind::Letter(Letters::EVERY), 0, 0),
+            letter => self.add(offset, Kind::Letter(Letters::single(letter)), 0, 0),
         }
+    }
+
+    /// The letters up to a closing bracket, which is passed too.
+    fn bracketed(&mut self) -> Letters {
+        let mut letters = Letters::NONE;
+        while self.peek() != b']' {
+            letters = letters.with(self.peek());
+            self.take();
+        }
+        self.take();
+        letters
     }
 
     /// The next byte, or 0 at the end, which no rule has.

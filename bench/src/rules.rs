@@ -9,6 +9,8 @@ use crate::words::{all_a, drawn, side_entrance, Word};
 pub enum Group {
     /// The slowest that was found of its kind.
     Worst,
+    /// Two rules side by side, of which the second one is not to take much longer than the first one.
+    Sets,
     /// What the facility manager of a side entrance asks.
     Everyday,
 }
@@ -26,6 +28,7 @@ pub fn rules() -> Vec<Rule> {
         without_specials(),
         complements(),
         intersections(),
+        sets(),
         everyday(),
     ]
     .into_iter()
@@ -93,6 +96,21 @@ fn intersections() -> Vec<Rule> {
     ]
 }
 
+fn sets() -> Vec<Rule> {
+    let sets = |name, node: &str| Rule {
+        name,
+        group: Group::Sets,
+        text: node.repeat(32),
+        word: all_a,
+    };
+    vec![
+        // As many letters in a row as 64 nodes can hold, each taken by the event that it comes to.
+        sets("32 letters", "a"),
+        // The same walks, so that the difference is what it takes to read sets and to enter all 52 letters of each.
+        sets("32 dots", "."),
+    ]
+}
+
 fn worst(name: &'static str, text: String, word: Word) -> Rule {
     Rule {
         name,
@@ -112,6 +130,8 @@ fn everyday() -> Vec<Rule> {
     vec![
         // Two minutes or more between an opening and its closing.
         everyday("held open", "o(b|p|t)*t(b|p|t)*t(b|p|t)*c"),
+        // The same as a site writes it since there are sets, with 16 nodes instead of 28.
+        everyday("held open, sets", "o[bpt]*t[bpt]*t[bpt]*c"),
         // One badge, and two people before the door closes.
         everyday("tailgating", "bot*pt*p(p|t)*c"),
         // An opening after a closing, with no badge between.

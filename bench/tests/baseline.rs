@@ -1,9 +1,11 @@
-//! The unproved judges on cases that are known: the days of document 01, letters in both cases, the edges of a row, and the program's one whole case.
+//! The unproved judges on cases that are known: the days of document 01, letters in both cases, sets of letters, the edges of a row, and the
+//! program's one whole case.
 
 use bench::blocks::empty_table;
 use bench::judge::Judge;
 use bench::row::{flip_between, next_bit, NO_BITS};
 use bench::rules::rules;
+use bench::words::side_entrance;
 use bench::{baseline, job, tuned};
 
 const JUDGES: [(&str, Judge); 2] = [("baseline", baseline::judge), ("tuned", tuned::judge)];
@@ -56,7 +58,72 @@ fn known_days_without_a_count() {
 fn letters_in_both_cases() {
     for (name, judge) in JUDGES {
         for (rule, word, found) in [("!A", "A", 2), ("aA", "aAaa", 1), ("!a", "aA", 5)] {
-            assert_eq!(judged(judge, rule, word).0, found, "{name}: {rule} on {word}");
+            assert_eq!(
+                judged(judge, rule, word).0,
+                found,
+                "{name}: {rule} on {word}"
+            );
+        }
+    }
+}
+
+#[test]
+fn sets_of_letters() {
+    let days = [
+        // As the letter alone.
+        ("[a]", "a", 1, 3),
+        (".", "", 0, 1),
+        ("[ab]", "abc", 2, 6),
+        ("[AZaz]", "AZazBYbyX", 4, 14),
+        ("!.", "aZ", 4, 12),
+        // One event at each place.
+        ("[ab][bc]", "abc", 2, 16),
+        ("a.z", "aaAzz", 1, 30),
+        ("[ab]*&.", "abca", 3, 44),
+    ];
+    for (name, judge) in JUDGES {
+        for (rule, word, found, count) in days {
+            let told = judged(judge, rule, word);
+            assert_eq!(told, (found, count), "{name}: {rule} on {word}");
+        }
+    }
+}
+
+#[test]
+fn a_set_is_one_node() {
+    for (name, judge) in JUDGES {
+        for (rule, m) in [("[abc]", 1), (".", 1), (".[a]", 3), ("![Zz]*", 3)] {
+            let answer = judge(rule.as_bytes(), b"", &mut empty_table(0));
+            assert_eq!(answer.m, m, "{name}: {rule}");
+        }
+    }
+}
+
+#[test]
+fn the_dot_has_all_letters() {
+    let letters: String = ('A'..='Z').chain('a'..='z').collect();
+    let brackets = format!("[{letters}]");
+    for (name, judge) in JUDGES {
+        assert_eq!(judged(judge, ".", &letters), (52, 105), "{name}");
+        assert_eq!(judged(judge, &brackets, &letters), (52, 105), "{name}");
+    }
+}
+
+#[test]
+fn a_set_finds_what_the_union_finds() {
+    let word = side_entrance(255);
+    let table_of = |judge: Judge, rule: &str| {
+        let mut table = empty_table(word.len());
+        judge(rule.as_bytes(), &word, &mut table);
+        table
+    };
+    for (name, judge) in JUDGES {
+        for (set, union) in [
+            ("o[bpt]*t[bpt]*t[bpt]*c", "o(b|p|t)*t(b|p|t)*t(b|p|t)*c"),
+            ("!(![bo].)&.*c", "!(!(b|o)(b|o|p|t|c))&(b|o|p|t|c)*c"),
+        ] {
+            let same = table_of(judge, set) == table_of(judge, union);
+            assert!(same, "{name}: {set}");
         }
     }
 }

@@ -2,6 +2,7 @@
 
 use crate::blocks::Blocks;
 use crate::judge::Owner;
+use crate::letters::COLUMNS;
 use crate::parse::{Kind, Node, MOST_NODES};
 
 /// A set of states: bit 2x is the entry of node x, and bit 2x + 1 its exit.
@@ -12,8 +13,8 @@ const MOST_STATES: usize = 2 * MOST_NODES;
 pub struct Automaton {
     /// For each state the states that free moves lead to from it, itself included.
     pub closed: [States; MOST_STATES],
-    /// The entries of each letter, by the low six bits of its byte, which no two letters share.
-    pub letters: [States; 64],
+    /// The entries of the nodes that each letter's event takes, by the letter's column.
+    pub letters: [States; COLUMNS],
     /// The entries of the special nodes.
     pub specials: States,
     pub blocks: Blocks,
@@ -29,11 +30,11 @@ pub fn exit(node: usize) -> States {
 
 impl Automaton {
     pub fn of(nodes: &[Node], blocks: &Blocks) -> Automaton {
-        let mut letters = [0; 64];
+        let mut letters = [0; COLUMNS];
         let mut specials = 0;
         for (x, node) in nodes.iter().enumerate() {
             match node.kind {
-                Kind::Letter(letter) => letters[usize::from(letter & 63)] |= entry(x),
+                Kind::Letter(set) => set.columns().for_each(|column| letters[column] |= entry(x)),
                 Kind::Intersection | Kind::Complement => specials |= entry(x),
                 _ => {}
             }

@@ -1,6 +1,7 @@
 //! One walk of the automaton over a word from one start, level by level, by whole sets of states.
 
 use crate::blocks::MOST_SPECIALS;
+use crate::letters::column;
 use crate::row::{bit, join, set_if, Row, NO_BITS};
 
 use super::automaton::{entry, exit, Automaton, States};
@@ -55,7 +56,7 @@ impl<'a> Walk<'a> {
     /// The exits of the letters that the event after number j takes.
     fn carried(&self, states: States, j: usize) -> States {
         match self.word.get(j) {
-            Some(letter) => (states & self.automaton.letters[usize::from(letter & 63)]) << 1,
+            Some(&letter) => (states & self.automaton.letters[column(letter)]) << 1,
             None => 0,
         }
     }

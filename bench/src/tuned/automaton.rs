@@ -1,6 +1,7 @@
 //! The automaton of a regular expression: its states, its free moves, closed, and the nodes of its letters and special nodes.
 
 use crate::blocks::Blocks;
+use crate::letters::COLUMNS;
 use crate::parse::{Kind, Node, MOST_NODES};
 
 /// A set of states: bit x is the entry of node x, and bit 64 + x its exit.
@@ -13,8 +14,8 @@ pub struct Automaton {
     within: [States; MOST_NODES],
     /// For each node the states that free moves lead to from its exit, itself included.
     after: [States; MOST_NODES],
-    /// The nodes of each letter, by the low six bits of its byte, which no two letters share.
-    pub letters: [u64; 64],
+    /// The nodes that each letter's event takes, by the letter's column.
+    pub letters: [u64; COLUMNS],
     /// The special nodes.
     pub specials: u64,
     pub blocks: Blocks,
@@ -31,11 +32,11 @@ pub fn exit(node: usize) -> States {
 impl Automaton {
     pub fn of(nodes: &[Node], blocks: &Blocks) -> Automaton {
         let within = within(nodes);
-        let mut letters = [0; 64];
+        let mut letters = [0; COLUMNS];
         let mut specials = 0;
         for (x, node) in nodes.iter().enumerate() {
             match node.kind {
-                Kind::Letter(letter) => letters[usize::from(letter & 63)] |= 1 << x,
+                Kind::Letter(set) => set.columns().for_each(|column| letters[column] |= 1 << x),
                 Kind::Intersection | Kind::Complement => specials |= 1 << x,
                 _ => {}
             }

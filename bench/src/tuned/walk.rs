@@ -1,6 +1,7 @@
 //! One walk of the automaton over a word from one start, by whole sets of states.
 
 use crate::blocks::MOST_SPECIALS;
+use crate::letters::column;
 use crate::row::{bit, join, next_bit, set_if, Row, NO_BITS};
 
 use super::automaton::{Automaton, States};
@@ -84,7 +85,7 @@ pub fn walk(
         if j == word.len() {
             return (ends, count);
         }
-        let mut nodes = states as u64 & automaton.letters[usize::from(word[j] & 63)];
+        let mut nodes = states as u64 & automaton.letters[column(word[j])];
         j += 1;
         nodes |= coming.at(j, &automaton.blocks.special_nodes);
         if nodes == 0 {

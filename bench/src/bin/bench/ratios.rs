@@ -1,4 +1,5 @@
-//! What is asked of the judges' ratios: to the baseline, each beside its target, and to the tuned judge, for comparison.
+//! What is asked of the judges' ratios: to the baseline, each beside its target, and to the tuned judge, for comparison; and of the proved
+//! judge's ratio between rules with sets of letters.
 
 use bench::rules::Group;
 
@@ -27,7 +28,7 @@ impl Ratios {
     }
 }
 
-/// Writes the numbers that have a target, each beside it: the ratios to the baseline, and the everyday time.
+/// Writes the numbers that have a target, each beside it: the ratios to the baseline, the everyday time, and the ratios of sets.
 pub fn print_targets(measured: &[Measured]) {
     let ratios = Ratios::of(measured, Times::against_baseline);
     println!(
@@ -44,6 +45,24 @@ pub fn print_targets(measured: &[Measured]) {
     let time = greatest(everyday(measured).map(|one| one.times.proved));
     let what = "greatest proved time, in µs";
     print_target(what, time, 1, "at most 50", time <= 50.0);
+    println!("Sets of letters, the proved judge alone:");
+    print_sets(measured);
+}
+
+/// Writes how much longer the second rule of sets takes the proved judge than the first one, at each number of events.
+fn print_sets(measured: &[Measured]) {
+    let sets = measured.iter().filter(|one| one.rule.group == Group::Sets);
+    let sets: Vec<&Measured> = sets.collect();
+    // All that was measured of the first rule stands before all that was measured of the second one.
+    let (first, second) = sets.split_at(sets.len() / 2);
+    for (one, other) in first.iter().zip(second) {
+        let ratio = other.times.proved / one.times.proved;
+        let what = format!(
+            "ratio of \"{}\" to \"{}\", n = {}",
+            other.rule.name, one.rule.name, one.n
+        );
+        print_target(&what, ratio, 2, "at most 1.2", ratio <= 1.2);
+    }
 }
 
 /// Writes the same ratios to the tuned judge, over the same rules.
