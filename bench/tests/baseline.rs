@@ -17,6 +17,16 @@ fn judged(judge: Judge, rule: &str, word: &str) -> (u64, u64) {
     (answer.found, answer.count)
 }
 
+/// Both judges have to tell found and count of each rule and word.
+fn tell(days: &[(&str, &str, u64, u64)]) {
+    for (name, judge) in JUDGES {
+        for &(rule, word, found, count) in days {
+            let told = judged(judge, rule, word);
+            assert_eq!(told, (found, count), "{name}: {rule} on {word}");
+        }
+    }
+}
+
 #[test]
 fn known_days_with_a_count() {
     let days = [
@@ -29,12 +39,7 @@ fn known_days_with_a_count() {
         ("a&a", "a", 1, 9),
         ("1*", "", 1, 4),
     ];
-    for (name, judge) in JUDGES {
-        for (rule, word, found, count) in days {
-            let told = judged(judge, rule, word);
-            assert_eq!(told, (found, count), "{name}: {rule} on {word}");
-        }
-    }
+    tell(&days);
 }
 
 #[test]
@@ -81,12 +86,7 @@ fn sets_of_letters() {
         ("a.z", "aaAzz", 1, 30),
         ("[ab]*&.", "abca", 3, 44),
     ];
-    for (name, judge) in JUDGES {
-        for (rule, word, found, count) in days {
-            let told = judged(judge, rule, word);
-            assert_eq!(told, (found, count), "{name}: {rule} on {word}");
-        }
-    }
+    tell(&days);
 }
 
 #[test]

@@ -1,26 +1,18 @@
 //! The reader of rule texts: trees, offsets, and refusals 1 to 6 with their order and places; those
 //! of sets have tests of their own.
 
+#[path = "common/records.rs"]
+mod records;
+
+use records::records_of;
 use second::generate::{grow_tree, write_tree};
 use second::random::Random;
 use second::rule::{read, Kind, Node, Rule};
 use second::set::Set;
 
-/// The records of an accepted text as offset and sign, a dot for concatenation.
+/// The records of an accepted text as sign and offset, a dot for concatenation.
 fn records(text: &str) -> String {
-    let rule = read(text.as_bytes()).unwrap();
-    let sign = |kind: Kind| match kind {
-        Kind::NoWord => "0".to_string(),
-        Kind::EmptyWord => "1".to_string(),
-        Kind::OneOf(set) => set.to_string(),
-        Kind::Union(..) => "|".to_string(),
-        Kind::Intersection(..) => "&".to_string(),
-        Kind::Concatenation(..) => ".".to_string(),
-        Kind::Complement(_) => "!".to_string(),
-        Kind::Star(_) => "*".to_string(),
-    };
-    let record = |node: &Node| format!("{}{}", sign(node.kind), node.offset);
-    rule.nodes.iter().map(record).collect::<Vec<_>>().join(" ")
+    records_of(&read(text.as_bytes()).unwrap())
 }
 
 /// Number and place; 0 and 0 if accepted.

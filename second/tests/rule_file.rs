@@ -1,5 +1,9 @@
 //! Rule files, sentence by sentence of document 02 b): numbers, places, sizes and offsets.
 
+#[path = "common/records.rs"]
+mod records;
+
+use records::records_of;
 use second::generate::{grow_tree, write_tree};
 use second::limits::LETTERS;
 use second::random::Random;
@@ -32,21 +36,9 @@ fn second_rule(rule: &str) -> Vec<u8> {
     [file("R→x→a/R→y→"), rule.into(), b"\n".to_vec()].concat()
 }
 
-/// The records of a line as offset and sign, a dot for concatenation.
+/// The records of a line as sign and offset, a dot for concatenation.
 fn records(line: &Line) -> String {
-    let sign = |kind: Kind| match kind {
-        Kind::NoWord => "0".to_string(),
-        Kind::EmptyWord => "1".to_string(),
-        Kind::OneOf(set) => set.to_string(),
-        Kind::Union(..) => "|".to_string(),
-        Kind::Intersection(..) => "&".to_string(),
-        Kind::Concatenation(..) => ".".to_string(),
-        Kind::Complement(_) => "!".to_string(),
-        Kind::Star(_) => "*".to_string(),
-    };
-    let record = |node: &Node| format!("{}{}", sign(node.kind), node.offset);
-    let records: Vec<String> = line.rule.nodes.iter().map(record).collect();
-    records.join(" ")
+    records_of(&line.rule)
 }
 
 /// The records of each line of an accepted file.

@@ -2,7 +2,7 @@
 use Prim.Native.Nat.{ℕ, zero, suc, _+_, _≤_, _<_}
 use native.Mathlib.Omega.{arith}
 use mathlib.Core.Path.{_≡_, ap, _∙_}
-use mathlib.Core.List.{List, [], _∷_}
+use mathlib.Core.List.{List, [], _∷_, _++_}
 use mathlib.Core.Bool.{Bool, true, false}
 use lib.ListN.{length, getD, drop, drop-of-length-le}
 use Rattle.event.specs.Leading.{leading}
@@ -40,6 +40,13 @@ module _ (f : ℕ → Bool) where
     before = λ i h. x .before (suc i) (omega arith);
     there = λ h. x .there (omega arith);
   })))
+
+  -- elements that pass, up to one that does not; P says of them, element by element, that they do
+  pub leading-up-to : (P : List ℕ → Type 0) → ((b : ℕ) (u : List ℕ) → P (b ∷ u) → (f b ≡ true) × P u) → (c : ℕ) → f c ≡ false
+      → (u s : List ℕ) → P u → leading f (u ++ c ∷ s) ≡ length u
+  unfolding leading
+  leading-up-to P each c e [] s h = rw e
+  leading-up-to P each c e (b ∷ u) s h = let x = each b u h in rw (x .0) (ap suc (leading-up-to P each c e u s (x .1)))
 
   -- one turn of a search for it
   pub leading-on : (s : List ℕ) (i : ℕ) → i < length s → f (getD s i 0) ≡ true → leading f (drop i s) ≡ suc (leading f (drop (i + 1) s))

@@ -1,5 +1,5 @@
 -- The leaf at the front of a text, for each leaf of the grammar. Assumes nothing.
-use Prim.Native.Nat.{ℕ, suc, _+_, _≤_, _<_}
+use Prim.Native.Nat.{ℕ, _+_, _≤_, _<_}
 use native.Mathlib.Omega.{arith}
 use mathlib.Core.Path.{_≡_, refl, sym, ap, ap₂, _∙_}
 use mathlib.Core.Bool.{Bool, false, cond}
@@ -13,7 +13,7 @@ use Rattle.event.specs.Leading.{leading}
 use Rattle.event.specs.LetterSets.{single, every, gathered, lettersOf}
 use Rattle.event.specs.declared.sets.LetterSet.{LetterSet}
 use Rattle.event.proofs.EventLaws.{event-not, reserved-foreign}
-use Rattle.event.proofs.LeadingLaws.{leading-found}
+use Rattle.event.proofs.LeadingLaws.{leading-found, leading-up-to}
 use Rattle.event.proofs.Tests.{of-T, choose}
 use Rattle.regex.specs.Leaves.{leaf, bracketed, leafAt}
 use Rattle.regex.specs.declared.Kind.the-variants.{Empty, Epsilon, Letter}
@@ -37,9 +37,7 @@ any-leaf-at x = refl
 
 -- letters lead up to a byte that is none
 pub letters-lead : (u : List ℕ) (c : ℕ) (x : List ℕ) → Events u → isEvent c ≡ false → leading isEvent (u ++ c ∷ x) ≡ length u
-unfolding leading
-letters-lead [] c x h e = rw e
-letters-lead (b ∷ u) c x h e = rw (of-T (isEvent b) (h .0)) (ap suc (letters-lead u c x (h .1) e))
+letters-lead u c x h e = leading-up-to isEvent Events (λ b u h. (of-T (isEvent b) (h .0), h .1)) c e u x h
 
 pub set-leaf-at : (u x : List ℕ) → Events u → leafAt (91 ∷ (u ++ 93 ∷ []) ++ x) ≡ leaf (length u + 2) (Letter (lettersOf u))
 unfolding leafAt

@@ -151,7 +151,7 @@ open-next d p e =
 pub bracket-next : (d : ℕ) (p : List ℕ) → Expects d p → Inside d (p ++ 91 ∷ [])
 bracket-next d p e = record { before = p; letters = []; whole = refl; events = tt; expects = e }
 
-events-append : (u v : List ℕ) → Events u → Events v → Events (u ++ v)
+pub events-append : (u v : List ℕ) → Events u → Events v → Events (u ++ v)
 events-append [] v p q = q
 events-append (b ∷ u) v p q = (p .0, events-append u v (p .1) q)
 

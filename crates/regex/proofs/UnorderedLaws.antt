@@ -12,6 +12,7 @@ use Rattle.event.specs.Event.{isEvent, Events}
 use Rattle.event.proofs.EventLaws.{event-apart, event-not}
 use Rattle.event.proofs.Tails.{rest-at}
 use Rattle.event.proofs.Tests.{T-of, of-T, and-split, and-join, choose}
+use Rattle.regex.proofs.ScanSound.{events-append}
 use Rattle.regex.specs.Unordered.{Unordered, FirstUnordered, Ordered}
 use Rattle.regex.specs.OrderComputed.{noted, falls, unorderedFrom, unorderedAt}
 
@@ -51,10 +52,6 @@ data Passed : ℕ → List ℕ → Type 0 where
   opened : (x : List ℕ) → Passed 1 (x ++ 91 ∷ [])
   lettered : (x l : List ℕ) (c : ℕ) → Events (l ++ c ∷ []) → Passed c (x ++ 91 ∷ (l ++ c ∷ []))
 
-events-end : (u : List ℕ) (b : ℕ) → Events u → T (isEvent b) → Events (u ++ b ∷ [])
-events-end [] b h e = (e, tt)
-events-end (c ∷ u) b h e = (h .0, events-end u b (h .1) e)
-
 same-text : {q : ℕ} {p v : List ℕ} → p ≡ v → Passed q p → Passed q v
 same-text {q} e x = subst (Passed q) e x
 
@@ -62,7 +59,7 @@ pass-letter : {q : ℕ} {p : List ℕ} (b : ℕ) → T (isEvent b) → 0 < q →
 pass-letter b e h outside = absurd (omega arith)
 pass-letter b e h (opened x) = same-text (sym (append-assoc x (91 ∷ []) (b ∷ []))) (lettered x [] b (e, tt))
 pass-letter b e h (lettered x l c g) =
-    same-text (sym (append-assoc x (91 ∷ (l ++ c ∷ [])) (b ∷ []))) (lettered x (l ++ c ∷ []) b (events-end (l ++ c ∷ []) b g e))
+    same-text (sym (append-assoc x (91 ∷ (l ++ c ∷ [])) (b ∷ []))) (lettered x (l ++ c ∷ []) b (events-append (l ++ c ∷ []) (b ∷ []) g (e, tt)))
 
 pass : (q b : ℕ) (p : List ℕ) → Passed q p → Passed (noted q b) (p ++ b ∷ [])
 pass q b p x =
@@ -88,7 +85,7 @@ fall-there b s (lettered x l c g) e h n =
       next = b;
       rest = s;
       whole = simp append-assoc;
-      inside = subst Events (append-assoc l (c ∷ []) (b ∷ [])) (events-end (l ++ c ∷ []) b g e);
+      inside = subst Events (append-assoc l (c ∷ []) (b ∷ [])) (events-append (l ++ c ∷ []) (b ∷ []) g (e, tt));
       not-above = n;
       place = omega (arith, length-append x (91 ∷ (l ++ c ∷ [])), length-append l (c ∷ []));
     }

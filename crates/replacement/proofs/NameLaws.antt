@@ -10,14 +10,12 @@ use lib.Seq.{drop-cons, getD-append-seam, length-take-le}
 use borrow.Author.Tests.{leb-true, le-leb, lt-leb, eqb-true, eq-eqb, ne-eqb}
 use Rattle.event.specs.Leading.{leading}
 use Rattle.event.proofs.Tests.{T-of, of-T, choose}
-use Rattle.event.proofs.LeadingLaws.{leading-found}
+use Rattle.event.proofs.LeadingLaws.{leading-found, leading-up-to}
 use Rattle.replacement.specs.Replaced.{isLower, Lowers, Name}
 use Rattle.replacement.specs.Pieces.{isNamed, nameLength}
 
 leads : (c : ℕ) → isLower c ≡ false → (n s : List ℕ) → Lowers n → leading isLower (n ++ c ∷ s) ≡ length n
-unfolding leading
-leads c e [] s h = rw e
-leads c e (b ∷ n) s h = rw (of-T (isLower b) (h .0)) (ap suc (leads c e n s (h .1)))
+leads c e n s h = leading-up-to isLower Lowers (λ b n h. (of-T (isLower b) (h .0), h .1)) c e n s h
 
 -- a name is found before the byte that ends it
 pub name-ahead : (c : ℕ) → isLower c ≡ false → (n s : List ℕ) → Name n → nameLength c (n ++ c ∷ s) ≡ length n

@@ -41,7 +41,8 @@ pub data RuleMeaning (s : List ℕ) : RuleAnswer → Type 0 where
   foreign-byte : {n : ℕ} → FitsLength s → n < length s → Listed s n → isRuleByte (getD s n 0) ≡ false → RuleMeaning s (refusal 3 n)
   -- "4: not a sentence; place is the length of the longest beginning that some sentence of any length also has."
   no-sentence : {n : ℕ} → Legal s → (Sentence s → ⊥) → Longest s n → RuleMeaning s (refusal 4 n)
-  -- 02 e): "20, a letter inside brackets that is not above the one before it in byte order, place the offset of the first such letter, after 4"
+  -- 02 e): "20, a letter inside brackets that is not above the one before it in byte order, place the offset of the first such letter, after 4
+  -- and 17" (17 is of rule files alone)
   unordered-set : {t : Tree} {n : ℕ} → Legal s → Reads Alt 0 s t → FirstUnordered s n → RuleMeaning s (refusal 20 n)
   -- "5: m over 64."
   many-nodes : {t : Tree} → Legal s → Reads Alt 0 s t → Ordered s → 64 < size t → RuleMeaning s (refusal 5 0)
