@@ -4,6 +4,7 @@ use crate::generate::{alphabet, change_byte, random_byte, sentence, spoil_leaf, 
 use crate::judge::judge;
 use crate::limits::{MAX_NODES, MAX_RULE_BYTES, MAX_SPECIAL, MAX_WORD};
 use crate::random::Random;
+use crate::random_stars::repeat_stars;
 use crate::{printed, rule, table};
 
 /// One line of the command `cases`: rule text, word, found spans, full work count, m and k.
@@ -35,8 +36,8 @@ pub fn reading_line(random: &mut Random, most_bytes: usize) -> String {
     format!("{text}\t{verdict}\t{reading}\n")
 }
 
-/// A random text: bytes without a plan, a sentence, or a sentence with a few bytes changed or with
-/// a leaf that has become a bad set.
+/// A random text: bytes without a plan, a sentence, or a sentence with a few bytes changed, with a
+/// leaf that has become a bad set or with stars directly after stars.
 fn good_or_bad_text(random: &mut Random, most_bytes: usize) -> Vec<u8> {
     if most_bytes == 0 || random.one_in(4) {
         let length = random.below(most_bytes + 1);
@@ -52,6 +53,9 @@ fn good_or_bad_text(random: &mut Random, most_bytes: usize) -> Vec<u8> {
     let mut text = sentence(random, letters, &bounds);
     if random.one_in(5) {
         spoil_leaf(random, &mut text, most_bytes);
+    }
+    if random.one_in(12) {
+        repeat_stars(random, &mut text, most_bytes);
     }
     for _ in 0..random.below(3) {
         let byte = random_byte(random);

@@ -272,7 +272,8 @@ impl Writer<'_> {
                 self.write(inner, 3);
             }
             Kind::Star(inner) => {
-                self.write(inner, 4);
+                // No star directly follows another one.
+                self.write(inner, 5);
                 self.text.push(b'*');
             }
         }

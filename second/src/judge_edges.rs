@@ -7,6 +7,7 @@ use crate::letter_edges::{self, ENDS};
 use crate::limits::LETTERS;
 use crate::rule_edges::{example_1, run, texts_of};
 use crate::set_edges;
+use crate::star_edges::nested_stars;
 use crate::stream::Case;
 use crate::{rule, table};
 
@@ -75,7 +76,7 @@ const EMPTY_STARS: [&str; 22] = [
     "(a&a)*",
     "0*",
     "(0|1)*",
-    "1***",
+    "((1*)*)*",
     "(a*b*)*",
     "(a*|b*)*",
     "(1a*1)*",
@@ -212,7 +213,7 @@ pub const BAD_RULES: [&[u8]; 12] = [
     b"a|",
     b")",
     b"(a",
-    b"a()b",
+    b"ba**",
     &[b'a'; 33],
     b"!!!!!!!!a",
     b"x[ba]",
@@ -279,7 +280,7 @@ fn about_limits() -> Vec<Case> {
         cases.extend(limits.map(|limit| call.with(call.need + 1, limit)));
     }
     // A count that 16 bits do not hold.
-    let call = Call::new(&[run("a", 1), run("*", 63)].concat(), &run("a", 64));
+    let call = Call::new(&nested_stars("a", 20), &run("a", 64));
     let limits = [0, 65_535, 65_536, call.count % 65_536, call.bound];
     cases.extend(limits.map(|limit| call.with(call.need, limit)));
     cases.extend([call.exact(), call.one_below()]);

@@ -3,6 +3,7 @@
 use crate::calls::Call;
 use crate::judge_edges::{pairs, repeated, LENGTHS, LONG};
 use crate::rule_edges::{example_1, run};
+use crate::star_edges::nested_stars;
 use crate::stream::Case;
 
 /// 64 nodes, 7 of them special, nested in each other to the left and to the right.
@@ -34,10 +35,10 @@ fn about_nodes() -> Vec<Case> {
         run("a", 32),
         [run("a", 32), run("*", 1)].concat(),
         [run("a|", 31), run("b*", 1)].concat(),
-        [run("a", 1), run("*", 63)].concat(),
+        nested_stars("a", 63),
         [run("(a|", 31), run("b", 1), run(")", 31), run("*", 1)].concat(),
         [run("!", 7), run("a", 29)].concat(),
-        [run("a&", 7), run("a", 24), run("*", 2)].concat(),
+        [run("a&", 7), run("a", 23), run("(a*)*", 1)].concat(),
         [run("(", 79), run("(a)", 32), run(")", 79), run("*", 1)].concat(),
     ];
     let words = [
@@ -127,7 +128,7 @@ fn about_the_highest_need() -> Vec<Case> {
 
 /// As many places as a rule and a word can be made to reach, and limits about that.
 fn about_the_highest_count() -> Vec<Case> {
-    let call = Call::new(&[run("a", 1), run("*", 63)].concat(), &run("a", 255));
+    let call = Call::new(&nested_stars("a", 63), &run("a", 255));
     let limits = [0, 1 << 16, call.bound];
     let mut cases: Vec<Case> = limits.map(|limit| call.with(call.need, limit)).into();
     cases.extend([call.exact(), call.one_below()]);

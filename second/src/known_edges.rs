@@ -64,6 +64,9 @@ const SETS: [(&str, &str); 4] = [
     ("!.*[bc]", "abac"),
 ];
 
+/// Stars in each other, which may not follow each other directly.
+const STARS: [(&str, &str); 2] = [("(a*)*", "aa"), ("!(a*)*b*", "ab")];
+
 /// Numbers to print: the first ones, some where a digit is added, and the last ones of 64 bits.
 const NUMBERS: [(u64, usize); 5] = [
     (0, 12),
@@ -88,6 +91,8 @@ pub fn cases() -> Vec<Case> {
     cases.extend(passing(&TRAPS));
     cases.extend(passing(&SETS));
     cases.extend(about_bad_sets());
+    cases.extend(passing(&STARS));
+    cases.extend(about_bad_stars());
     cases.extend(NUMBERS.map(|(first, count)| Case::Numbers { first, count }));
     cases
 }
@@ -156,8 +161,17 @@ fn about_bytes() -> [Case; 3] {
 
 /// Letters in brackets that do not rise, and brackets that make no sentence.
 fn about_bad_sets() -> [Case; 4] {
-    let rules = [&b"[ba]"[..], b"[aa]", b"[]", b"[ba]|"];
-    rules.map(|rule| case(0, 0, rule, b""))
+    ["[ba]", "[aa]", "[]", "[ba]|"].map(refused)
+}
+
+/// Stars that directly follow stars, and what is refused before that.
+fn about_bad_stars() -> [Case; 4] {
+    ["a**", "(a*)**", "a**|", "[ba]**"].map(refused)
+}
+
+/// A rule that is refused, on the empty word.
+fn refused(rule: &str) -> Case {
+    case(0, 0, rule.as_bytes(), b"")
 }
 
 /// A rule text for each of 1 to 6, with a word and a table that would be refused too.

@@ -1,4 +1,4 @@
-//! A rule with names, as a line of a rule file has it: refusals 1 to 6, 17 and 20, and its
+//! A rule with names, as a line of a rule file has it: refusals 1 to 6, 17, 20 and 21, and its
 //! reading.
 //!
 //! The text after replacement is really made, and then read like any other sentence.
@@ -8,6 +8,7 @@ use crate::refusal::Reason;
 use crate::rule::{check_sentence, is_listed, read_sentence, Rule};
 use crate::rule_file::{is_name, Line};
 use crate::shape::first_fallen;
+use crate::stars::first_repeated;
 
 /// What stands for any name while only the form of a rule is checked.
 const ANY_OPERAND: u8 = b'1';
@@ -36,6 +37,10 @@ pub fn read(written: &[u8], earlier: &[Line]) -> Result<(Vec<u8>, Rule), Reason>
     // Brackets hold no names, so they are judged as they are written.
     if first_fallen(written).is_some() {
         return Err(Reason::LetterNotAbove);
+    }
+    // So are stars: a name stands for a rule in parentheses.
+    if first_repeated(written).is_some() {
+        return Err(Reason::StarAfterStar);
     }
     let text = replaced(&parts, earlier)?;
     let rule = read_sentence(&text)?;

@@ -6,19 +6,25 @@ use crate::generate::{any_byte, change_byte, grow_tree, random_byte};
 use crate::generate::{random_leaf, spoil_leaf, write_tree};
 use crate::limits::{LETTERS, MAX_NODES, MAX_RULE_BYTES, MAX_SPECIAL};
 use crate::random::Random;
+use crate::random_stars::repeat_stars;
 
 /// Lengths of texts without a plan: the shortest, and those about the longest.
 const LENGTHS: [usize; 9] = [0, 1, 2, 3, 254, 255, 256, 257, 300];
 
-/// A random text, a sentence more often than not.
+/// A random text, a sentence more often than not; in some of them stars directly follow stars.
 pub fn text(random: &mut Random) -> Vec<u8> {
-    match random.below(10) {
+    match random.below(13) {
         0 => without_plan(random, random_byte),
         1 => without_plan(random, any_byte),
         2 | 3 => changed_sentence(random),
         4 => {
             let mut text = any_sentence(random);
             spoil_leaf(random, &mut text, MAX_RULE_BYTES + 2);
+            text
+        }
+        5 => {
+            let mut text = any_sentence(random);
+            repeat_stars(random, &mut text, MAX_RULE_BYTES + 2);
             text
         }
         _ => any_sentence(random),
@@ -38,6 +44,9 @@ fn without_plan(random: &mut Random, byte: fn(&mut Random) -> u8) -> Vec<u8> {
 /// A sentence with a few bytes changed, mostly to listed ones.
 fn changed_sentence(random: &mut Random) -> Vec<u8> {
     let mut text = any_sentence(random);
+    if random.one_in(8) {
+        repeat_stars(random, &mut text, MAX_RULE_BYTES);
+    }
     for _ in 0..=random.below(3) {
         let byte = if random.one_in(8) {
             any_byte(random)

@@ -25,6 +25,7 @@ pub enum Reason {
     TooManyRuleLines = 19,
     /// Of a letter in brackets and the one before it.
     LetterNotAbove = 20,
+    StarAfterStar = 21,
 }
 
 /// A reason with the place it names.

@@ -1,4 +1,4 @@
-//! The reader of rule texts: refusals 1 to 6 and 20, and the tree with its byte offsets.
+//! The reader of rule texts: refusals 1 to 6, 20 and 21, and the tree with its byte offsets.
 //!
 //! A sentence is read by splitting it at its loosest operator, over and over;
 //! whether a text is a sentence at all, and how many nodes it has, is settled before, by passes
@@ -12,6 +12,7 @@ use crate::limits::{MAX_NODES, MAX_RULE_BYTES, MAX_SPECIAL};
 use crate::refusal::{Reason, Refusal};
 use crate::set::Set;
 use crate::shape::{first_fallen, is_leaf, Shape};
+use crate::stars::first_repeated;
 
 /// What a node is; each side is given by its index in the list of nodes.
 #[derive(Clone, Copy, Debug, PartialEq, Eq)]
@@ -71,6 +72,21 @@ impl Rule {
 
 /// Reads a rule text, or says why it is refused.
 pub fn read(text: &[u8]) -> Result<Rule, Refusal> {
+    check_text(text)?;
+    if let Some(offset) = first_repeated(text) {
+        return Err(Refusal::at(Reason::StarAfterStar, offset));
+    }
+    read_sentence(text).map_err(Refusal::without_place)
+}
+
+/// Reads a rule text in which stars may directly follow each other.
+pub fn read_with_repeated_stars(text: &[u8]) -> Result<Rule, Refusal> {
+    check_text(text)?;
+    read_sentence(text).map_err(Refusal::without_place)
+}
+
+/// Refuses what is refused before any star is looked at: 1 to 4 and 20.
+fn check_text(text: &[u8]) -> Result<(), Refusal> {
     if text.is_empty() {
         return Err(Refusal::without_place(Reason::RuleEmpty));
     }
@@ -84,7 +100,7 @@ pub fn read(text: &[u8]) -> Result<Rule, Refusal> {
     if let Some(offset) = first_fallen(text) {
         return Err(Refusal::at(Reason::LetterNotAbove, offset));
     }
-    read_sentence(text).map_err(Refusal::without_place)
+    Ok(())
 }
 
 /// Reads a sentence of any length, unless it has too many nodes or special nodes.

@@ -1,6 +1,7 @@
-//! The rule texts that walk document 01's edges and those of sets.
+//! The rule texts that walk document 01's edges, those of sets and those of stars in a row.
 
-use crate::{letter_edges, set_edges};
+use crate::star_edges::nested_stars;
+use crate::{letter_edges, set_edges, star_edges};
 
 /// What document 01 writes down itself: C1 to C12, its Edges, and the rules in its prose.
 const NAMED: [&str; 22] = [
@@ -47,8 +48,8 @@ const SHAPES: [&str; 66] = [
     "a*b*",
     "a*!b*",
     "(a)*!!b",
-    "a**b**",
-    "!!a**",
+    "(a*)*(b*)*",
+    "!!(a*)*",
     "(!a)*",
     "!(!a)*",
     "((a)*)*",
@@ -181,6 +182,7 @@ pub fn texts() -> Vec<Vec<u8>> {
     texts.extend(about_places());
     texts.extend(about_length());
     texts.extend(set_edges::texts());
+    texts.extend(star_edges::texts());
     texts
 }
 
@@ -207,9 +209,8 @@ fn about_nodes() -> Vec<Vec<u8>> {
         texts.push(run("(a)", letters));
         texts.push(vec!["a"; letters].join("|").into());
         texts.push([run("a", letters), run("*", 1)].concat());
-        texts.push([run("a", letters), run("*", 2)].concat());
+        texts.push(nested_stars(&"a".repeat(letters), 2));
     }
-    texts.extend([62, 63, 64, 65].map(|stars| [run("a", 1), run("*", stars)].concat()));
     // 7 of the nodes are special, so that only m decides.
     texts.extend([28, 29, 30].map(|letters| [run("!", 7), run("a", letters)].concat()));
     texts
@@ -288,7 +289,6 @@ fn about_length() -> Vec<Vec<u8>> {
         run(")", 255),
         run("a", 255),
         followed("!", 254, "a"),
-        [run("a", 1), run("*", 254)].concat(),
         followed("a|", 127, "a"),
         followed("a&", 127, "a"),
         run("(a)", 85),

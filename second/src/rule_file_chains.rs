@@ -91,7 +91,7 @@ pub fn longest() -> Vec<Vec<u8>> {
         "(".repeat(79) + &"?".repeat(32) + &")".repeat(79) + "*",
         // Refused for their nodes: after replacement they would have 65 and more.
         "?".repeat(33),
-        "?".repeat(32) + "**",
+        "?".repeat(31) + "(?*)*",
         "?".repeat(85),
     ];
     let mut files: Vec<Vec<u8>> = lasts.map(|last| deepest.clone().then(&last).file).into();
@@ -112,7 +112,7 @@ pub fn growing() -> Vec<Vec<u8>> {
         letter().then_often("??", 5),
         letter().then_often("??", 6),
         letter().then_often("??", 5).then("?*"),
-        letter().then_often("??", 5).then("?**"),
+        letter().then_often("??", 5).then("(?*)*"),
         letter().then_often("??", 5).then("?a"),
         letter().then_often("??", 5).then_often("(?)", 10),
         letter().then_often("!?", 7),

@@ -1,4 +1,5 @@
-//! The rule files that walk the edges of document 02 b) and e), and of how their issues read them.
+//! The rule files that walk the edges of document 02 b), e) and f), and of how their issues read
+//! them.
 
 use crate::limits::MAX_RULE_LINES;
 use crate::refusal::Reason;
@@ -7,13 +8,15 @@ use crate::rule_file_chains::{growing, letter_at, longest, special_at_long_offse
 use crate::rule_file_lines::{faulty_lines, good_line, good_lines, line, LINE_REASONS};
 use crate::set_edges;
 
-/// What the issue writes down itself.
-const NAMED: [&[u8]; 5] = [
+/// What the issues write down themselves.
+const NAMED: [&[u8]; 7] = [
     b"R\tx\ta|b\nR\ty\t<x>c\n",
     b"R\tx\ta\nR\ty\t!<x>&<x><x>*\n",
     b"R\tx\taaaaaaaa\nR\ty\t<x><x><x><x>\nR\tz\t<y><y>\n",
     b"R\tx\ta\nR\tx\t)\n",
     b"R\tx\ta\nR\ty\t<x>\nR\tz\t<y>\n",
+    b"R\tx\ta*\nR\ty\t<x>*\n",
+    b"R\tx\ta*\nR\ty\t<x>**\n",
 ];
 
 /// Rules to be put in, of every kind of head.

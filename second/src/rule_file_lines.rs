@@ -2,9 +2,10 @@
 
 use crate::refusal::Reason;
 use crate::rule_edges::run;
+use crate::star_edges::nested_stars;
 
 /// The refusals that a line can give, in the order in which they are looked for.
-pub const LINE_REASONS: [Reason; 10] = [
+pub const LINE_REASONS: [Reason; 11] = [
     Reason::RuleLineForm,
     Reason::NameTaken,
     Reason::RuleEmpty,
@@ -13,6 +14,7 @@ pub const LINE_REASONS: [Reason; 10] = [
     Reason::NotASentence,
     Reason::UnknownName,
     Reason::LetterNotAbove,
+    Reason::StarAfterStar,
     Reason::TooManyNodes,
     Reason::TooManySpecialNodes,
 ];
@@ -75,7 +77,7 @@ const FOREIGN: [&[u8]; 23] = [
 ];
 
 /// Rules that are no sentences, whatever their names stand for; `la` and `me` may stand for a rule.
-const NO_SENTENCES: [&str; 64] = [
+const NO_SENTENCES: [&str; 69] = [
     ")",
     "a|",
     "()",
@@ -140,10 +142,15 @@ const NO_SENTENCES: [&str; 64] = [
     "[ba",
     "[aa]<zz>)",
     "[ba]<zz>[]",
+    "a**|",
+    "**",
+    "<la>**)",
+    "<la**>",
+    "<zz>**<",
 ];
 
 /// Rules with a name that no earlier line has; the last ones are next to the name `la`.
-const UNKNOWN: [&str; 17] = [
+const UNKNOWN: [&str; 19] = [
     "<me>",
     "<zz>",
     "a<zz>b",
@@ -161,10 +168,12 @@ const UNKNOWN: [&str; 17] = [
     "[ba]<zz>",
     "<zz>[ba]",
     "<zz>|[aa]",
+    "<zz>**",
+    "a**<zz>",
 ];
 
 /// Rules with letters in brackets that do not rise.
-const FALLEN: [&str; 9] = [
+const FALLEN: [&str; 11] = [
     "[ba]",
     "[aa]",
     "[aZ]",
@@ -174,10 +183,20 @@ const FALLEN: [&str; 9] = [
     "([ba])*|.",
     "![cba]",
     "la[la]",
+    "[ba]**",
+    "a**[ba]",
 ];
 
 /// Such rules with the name of an earlier line, which has several nodes.
-const FALLEN_BY_NAMES: [&str; 3] = ["<la>[ba]", "[aa]<la>", "([ba]|<la>)*"];
+const FALLEN_BY_NAMES: [&str; 4] = ["<la>[ba]", "[aa]<la>", "([ba]|<la>)*", "<la>**[ba]"];
+
+/// Rules in which a star directly follows a star.
+const STARS: [&str; 10] = [
+    "a**", "(a*)**", "(a**)*", "a***", "a*b**", "!a**|b", "a**&b**", "[ab]**", ".**", "la**",
+];
+
+/// Such rules with the name of an earlier line, which has several nodes.
+const STARS_BY_NAMES: [&str; 4] = ["<la>**", "<la>***", "a*<la>**b", "(<la>*)**"];
 
 /// A line of the form.
 pub fn line(name: &str, rule: impl AsRef<[u8]>) -> Vec<u8> {
@@ -236,6 +255,10 @@ fn faulty_by_names(reason: Reason) -> Vec<Vec<u8>> {
             let crowded = [run("<la>", 40), run("[ba]", 1)].concat();
             [FALLEN_BY_NAMES.map(Vec::from).to_vec(), vec![crowded]].concat()
         }
+        Reason::StarAfterStar => {
+            let crowded = [run("<la>", 40), run("**", 1)].concat();
+            [STARS_BY_NAMES.map(Vec::from).to_vec(), vec![crowded]].concat()
+        }
         Reason::TooManyNodes => vec![run("<la>", 17)],
         Reason::TooManySpecialNodes => vec![run("!<la>", 8)],
         _ => Vec::new(),
@@ -264,10 +287,15 @@ fn faulty_rules(reason: Reason) -> Vec<Vec<u8>> {
             let crowded = [run("a", 33), run("!", 8)].map(|text| [text, run("[ba]", 1)].concat());
             [FALLEN.map(Vec::from).to_vec(), crowded.to_vec()].concat()
         }
+        Reason::StarAfterStar => {
+            let crowded = [run("a", 33), run("!", 8)].map(|text| [text, run("a**", 1)].concat());
+            let many = [run("a", 1), run("*", 64)].concat();
+            [STARS.map(Vec::from).to_vec(), crowded.to_vec(), vec![many]].concat()
+        }
         Reason::TooManyNodes => vec![
             run("a", 33),
             run("[ab]", 33),
-            [run("a", 1), run("*", 64)].concat(),
+            nested_stars("a", 64),
             [run("!", 64), run("a", 1)].concat(),
             run("a", 255),
         ],

@@ -28,7 +28,7 @@ const SENTENCES: [&str; 40] = [
     "a.",
     "[ab]*",
     "![ab]",
-    "!![ab]**",
+    "!!([ab]*)*",
     "([ab])",
     "(([ab]))*",
     "[ab]c",
@@ -270,7 +270,7 @@ fn about_the_alphabet() -> Vec<Vec<u8>> {
 fn about_nodes() -> Vec<Vec<u8>> {
     let many = [
         [run("[ab]", 32), run("*", 1)],
-        [run("[ab]", 32), run("*", 2)],
+        [run("[ab]", 31), run("([ab]*)*", 1)],
         [run("[ab]", 33), run("", 0)],
         [run(".", 32), run("*", 1)],
         [run(".", 33), run("", 0)],

@@ -6,6 +6,7 @@ use std::collections::HashSet;
 
 use second::generate::{sentence, spoil_leaf, Bounds};
 use second::random::Random;
+use second::random_stars::repeat_stars;
 use second::rule::{is_listed, read};
 
 /// One byte for each that the grammar tells apart, but for sets.
@@ -71,7 +72,9 @@ impl<'a> Chart<'a> {
     fn verdict(&self) -> (u32, usize) {
         let n = self.text.len();
         if self.sentence[0][n] {
-            return fallen(self.text).map_or((0, 0), |place| (20, place));
+            let fallen = fallen(self.text).map(|place| (20, place));
+            let repeated = repeated_star(self.text).map(|place| (21, place));
+            return fallen.or(repeated).unwrap_or((0, 0));
         }
         let longest = (0..=n).rev().find(|&length| self.begins_sentence(length));
         (
@@ -96,6 +99,18 @@ fn fallen(text: &[u8]) -> Option<usize> {
             _ if before.is_some_and(|before| byte <= before) => return Some(at),
             _ => before = before.map(|_| byte),
         }
+    }
+    None
+}
+
+/// The first star that follows a star.
+fn repeated_star(text: &[u8]) -> Option<usize> {
+    let mut follows = false;
+    for (at, &byte) in text.iter().enumerate() {
+        if follows && byte == b'*' {
+            return Some(at);
+        }
+        follows = byte == b'*';
     }
     None
 }
@@ -197,7 +212,7 @@ fn longer_random_texts_are_judged_as_the_grammar_says() {
         nodes: 40,
         special: 4,
     };
-    let mut seen = [0; 21];
+    let mut seen = [0; 22];
     for _ in 0..6_000 {
         let mut text = sentence(&mut random, b"aZ", &bounds);
         for _ in 0..random.below(3) {
@@ -207,11 +222,15 @@ fn longer_random_texts_are_judged_as_the_grammar_says() {
         if random.one_in(8) {
             spoil_leaf(&mut random, &mut text, 40);
         }
+        if random.one_in(8) {
+            repeat_stars(&mut random, &mut text, 40);
+        }
         if text.iter().all(|&byte| is_listed(byte)) {
             let expected = Chart::new(&text).verdict();
             seen[expected.0 as usize] += 1;
             assert_eq!(answer(&text), expected, "{}", text.escape_ascii());
         }
     }
-    assert!(seen[0] > 1_000 && seen[4] > 1_000 && seen[20] > 100);
+    assert!(seen[0] > 1_000 && seen[4] > 1_000);
+    assert!(seen[20] > 100 && seen[21] > 100);
 }

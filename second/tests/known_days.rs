@@ -138,8 +138,8 @@ fn a_star_around_the_empty_word_finishes() {
         }
     );
     // Each further star adds its own two states.
-    assert_eq!(judged("1**", "").0.count, 6);
-    assert_eq!(judged("1***", "").0.count, 8);
+    assert_eq!(judged("(1*)*", "").0.count, 6);
+    assert_eq!(judged("((1*)*)*", "").0.count, 8);
     // The exit of 0 is not reached.
     assert_eq!(judged("0*", "").0.count, 3);
 }

@@ -61,7 +61,7 @@ fn precedence_runs_from_union_to_star() {
         ("(!a)*", "a2 !1 *4"),
         ("!(ab)", "a2 b3 .3 !0"),
         ("(a|b)c", "a1 b3 |2 c5 .5"),
-        ("!!a**", "a2 *3 *4 !1 !0"),
+        ("!!(a*)*", "a3 *4 *6 !1 !0"),
     ];
     for (text, expected) in cases {
         assert_eq!(records(text), expected, "{text}");
@@ -211,9 +211,11 @@ fn over_64_nodes_is_5() {
     assert_eq!(sizes(&"a".repeat(32)), (63, 0));
     assert_eq!(sizes(&format!("{}*", "a".repeat(32))), (64, 0));
     assert_eq!(verdict("a".repeat(33).as_bytes()), (5, 0));
-    assert_eq!(verdict(format!("{}**", "a".repeat(32)).as_bytes()), (5, 0));
-    assert_eq!(sizes(&format!("a{}", "*".repeat(63))), (64, 0));
-    assert_eq!(verdict(format!("a{}", "*".repeat(64)).as_bytes()), (5, 0));
+    let two_stars = format!("({}*)*", "a".repeat(32));
+    assert_eq!(verdict(two_stars.as_bytes()), (5, 0));
+    let nested = |around: usize| ["(".repeat(around), "a*".into(), ")*".repeat(around)].concat();
+    assert_eq!(sizes(&nested(62)), (64, 0));
+    assert_eq!(verdict(nested(63).as_bytes()), (5, 0));
     assert_eq!(verdict(&[b'a'; 255]), (5, 0));
     // The same with | between: 32 letters and 31 signs, then one more of each.
     assert_eq!(sizes(&["a"; 32].join("|")), (63, 0));
@@ -286,7 +288,7 @@ impl Writer<'_> {
                 offset
             }
             Kind::Star(inner) => {
-                self.part(inner, 4);
+                self.part(inner, 5);
                 self.sign(b"*")
             }
         };

@@ -224,10 +224,10 @@ fn the_255_bytes_are_those_written() {
     for (depth, expected) in [(126, (0, 0)), (127, (2, 2))] {
         assert_eq!(verdict(&second_rule(&enclosed("<x>", depth))), expected);
     }
-    // 256 bytes of which 55 would be left.
-    let long_name = format!("R→abcdefghijkl→a/R→y→{}b****/", "<abcdefghijkl>".repeat(18));
+    // 256 bytes of which 58 would be left.
+    let long_name = format!("R→abcdefghijkl→a/R→y→{}(b)*/", "<abcdefghijkl>".repeat(18));
     assert_eq!(verdict(&file(&long_name)), (2, 2));
-    let one_less = long_name.replace("b****", "b**");
+    let one_less = long_name.replace("(b)*", "(b)");
     assert_eq!(verdict(&file(&one_less)), (0, 0));
 }
 
@@ -237,7 +237,7 @@ fn nodes_and_special_nodes_are_those_after_replacement() {
     check(&[
         (&format!("{sixteen}R→y→<x><x>/"), (0, 0)),
         (&format!("{sixteen}R→y→(<x><x>)*/"), (0, 0)),
-        (&format!("{sixteen}R→y→(<x><x>)**/"), (5, 2)),
+        (&format!("{sixteen}R→y→((<x><x>)*)*/"), (5, 2)),
         (&format!("{sixteen}R→y→<x><x>a/"), (5, 2)),
         ("R→x→!!!!!!!a/R→y→<x>/", (0, 0)),
         ("R→x→!!!!!!!a/R→y→!<x>/", (6, 2)),

@@ -1,4 +1,4 @@
-//! The six calls of the C interface, with every buffer as a slice.
+//! The seven calls of the C interface, with every buffer as a slice.
 
 use std::fmt;
 
@@ -6,6 +6,7 @@ use super::hours::Hours;
 use super::letters::Letters;
 use super::names::{self, Names};
 use super::sets::Sets;
+use super::stars::Stars;
 use super::trouble::Trouble;
 use crate::limits::MAX_RULE_LINES;
 
@@ -59,6 +60,11 @@ pub enum Call<'a> {
         table: &'a mut [u64],
         answer: &'a mut [u64],
     },
+    RewriteRule {
+        text: &'a [u8],
+        out: &'a mut [u8],
+        answer: &'a mut [u64],
+    },
 }
 
 /// A library that does the calls and gives what each returns; the text names the case, for messages
@@ -74,6 +80,7 @@ pub enum Callee {
     RunJob,
     ReadRuleFile,
     JudgeRuleFile,
+    RewriteRule,
     Program,
     /// The program while something happens to its standard input or output.
     Troubled,
@@ -99,6 +106,8 @@ pub enum Kind {
     ShownHours(Hours),
     /// Besides its number it shows this of sets of letters.
     ShownSets(Sets),
+    /// Besides its number it shows this of stars in a row.
+    ShownStars(Stars),
     /// This happens to the program.
     Trouble(Trouble),
 }
@@ -123,6 +132,7 @@ impl fmt::Display for Kind {
             Kind::ShownNames(names) => names.fmt(formatter),
             Kind::ShownHours(hours) => hours.fmt(formatter),
             Kind::ShownSets(sets) => sets.fmt(formatter),
+            Kind::ShownStars(stars) => stars.fmt(formatter),
             Kind::Trouble(trouble) => trouble.fmt(formatter),
         }
     }
@@ -130,20 +140,21 @@ impl fmt::Display for Kind {
 
 impl Callee {
     /// The calls of the library.
-    pub const LIBRARY: [Callee; 6] = [
+    pub const LIBRARY: [Callee; 7] = [
         Callee::ReadRule,
         Callee::ReadDay,
         Callee::Judge,
         Callee::RunJob,
         Callee::ReadRuleFile,
         Callee::JudgeRuleFile,
+        Callee::RewriteRule,
     ];
 
     /// How many elements of its answer a call writes; the program has no such buffer.
     pub fn answer_length(self) -> usize {
         match self {
             Callee::ReadRule => 6,
-            Callee::ReadDay | Callee::RunJob | Callee::ReadRuleFile => 5,
+            Callee::ReadDay | Callee::RunJob | Callee::ReadRuleFile | Callee::RewriteRule => 5,
             Callee::Judge | Callee::JudgeRuleFile => 4,
             Callee::Program | Callee::Troubled => 0,
         }
@@ -152,14 +163,15 @@ impl Callee {
     /// Every kind of case there can be, but for the lines at which a rule file is refused.
     pub fn kinds(self) -> Vec<Kind> {
         let numbers: Vec<u32> = match self {
-            Callee::ReadRule => (0..=6).chain([20]).collect(),
+            Callee::ReadRule => (0..=6).chain([20, 21]).collect(),
             Callee::ReadDay => [0].into_iter().chain(11..=15).collect(),
-            Callee::Judge => (0..=10).chain([20]).collect(),
-            Callee::RunJob => (0..=6).chain(11..=16).chain([20]).collect(),
-            Callee::ReadRuleFile => (0..=6).chain(16..=20).collect(),
-            Callee::JudgeRuleFile => (0..=10).chain(16..=20).collect(),
+            Callee::Judge => (0..=10).chain([20, 21]).collect(),
+            Callee::RunJob => (0..=6).chain(11..=16).chain([20, 21]).collect(),
+            Callee::ReadRuleFile => (0..=6).chain(16..=21).collect(),
+            Callee::JudgeRuleFile => (0..=10).chain(16..=21).collect(),
+            Callee::RewriteRule => (0..=6).chain([15, 20]).collect(),
             // The program's own buffer takes every text, so it never gives 15.
-            Callee::Program => (0..=6).chain(11..=14).chain([16, 20]).collect(),
+            Callee::Program => (0..=6).chain(11..=14).chain([16, 20, 21]).collect(),
             Callee::Troubled => return Trouble::ALL.map(Kind::Trouble).to_vec(),
         };
         let unanswered = (self != Callee::Program).then_some(Kind::Unanswered);
@@ -168,7 +180,8 @@ impl Callee {
         let names = Names::of(self).iter().copied().map(Kind::ShownNames);
         let hours = Hours::of(self).iter().copied().map(Kind::ShownHours);
         let sets = Sets::of(self).iter().copied().map(Kind::ShownSets);
-        let shown = letters.chain(names).chain(hours).chain(sets);
+        let stars = Stars::of(self).iter().copied().map(Kind::ShownStars);
+        let shown = letters.chain(names).chain(hours).chain(sets).chain(stars);
         numbers.chain(unanswered).chain(shown).collect()
     }
 
@@ -196,6 +209,7 @@ impl fmt::Display for Callee {
             Callee::RunJob => "wuz_run_job",
             Callee::ReadRuleFile => "wuz_read_rule_file",
             Callee::JudgeRuleFile => "wuz_judge_rule_file",
+            Callee::RewriteRule => "wuz_rewrite_rule",
             Callee::Program => "the program",
             Callee::Troubled => "the program in trouble",
         })

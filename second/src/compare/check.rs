@@ -5,7 +5,7 @@ use super::call::{Call, Callee, Kind, Library, UNANSWERED};
 use super::lent::{Difference, Dirt, Lent, Side};
 use super::reference;
 use super::request::{Asked, Request};
-use super::{hours, letters, names, sets};
+use super::{hours, letters, names, sets, stars};
 
 /// What came of one comparison.
 pub struct Checked {
@@ -42,7 +42,10 @@ fn shown(asked: &Asked, number: u32, place: usize) -> Vec<Kind> {
     let hours = hours::shown(asked, number, place).map(Kind::ShownHours);
     let sets = sets::shown(asked, number, place);
     let sets = sets.into_iter().map(Kind::ShownSets);
-    letters.chain(names).chain(hours).chain(sets).collect()
+    let stars = stars::shown(asked, number);
+    let stars = stars.into_iter().map(Kind::ShownStars);
+    let shown = letters.chain(names).chain(hours).chain(sets);
+    shown.chain(stars).collect()
 }
 
 /// What is wrong with the number that a call returned.
@@ -67,7 +70,7 @@ struct Buffers {
     /// What is read first: a rule text, a day file, a job or a rule file.
     first: Lent<u8>,
     word: Lent<u8>,
-    /// The letters of a day, or the text of a job.
+    /// The letters of a day, the text of a job or a rewritten rule.
     bytes: Lent<u8>,
     seconds: Lent<u32>,
     /// The two numbers of each line of a rule file.
@@ -81,7 +84,7 @@ impl Buffers {
     /// The buffers that a request asks for, full of its dirt.
     fn new(request: &Request) -> Self {
         let dirt = request.dirt;
-        let mut buffers = Buffers::empty(dirt);
+        let mut buffers = Buffers::none();
         buffers.answer = Lent::dirty("answer", request.answer, dirt);
         match &request.asked {
             Asked::Rule { text, nodes } => {
@@ -120,13 +123,19 @@ impl Buffers {
                 buffers.word = Lent::holding("word", word, dirt);
                 buffers.numbers = Lent::dirty("table", *table, dirt);
             }
+            Asked::Rewriting { text, out } => {
+                buffers.first = Lent::holding("text", text, dirt);
+                buffers.bytes = Lent::dirty("out", *out, dirt);
+            }
         }
         buffers
     }
 
     /// No buffer at all.
-    fn empty(dirt: Dirt) -> Self {
+    fn none() -> Self {
         const NONE: &str = "a buffer that is not lent";
+        // The dirt that is made the fastest.
+        let dirt = Dirt::Ones;
         Buffers {
             first: Lent::dirty(NONE, 0, dirt),
             word: Lent::dirty(NONE, 0, dirt),
@@ -177,6 +186,11 @@ impl Buffers {
                 word: self.word.side(side),
                 limit,
                 table: self.numbers.side(side),
+                answer,
+            },
+            Asked::Rewriting { .. } => Call::RewriteRule {
+                text: first,
+                out: self.bytes.side(side),
                 answer,
             },
         }

@@ -54,9 +54,9 @@ pub fn edges(library: &Library, command: &str, output: &mut dyn Write) -> io::Re
     let progress = Progress::start();
     progress.doing("edges: working out the cases".to_string());
     let requests = edge_requests::requests();
-    let all = requests.len() + edge_requests::pairs().count();
+    let all = requests.len() + edge_requests::numerous().count();
     let mut run = Run::new(output);
-    let requests = requests.into_iter().chain(edge_requests::pairs());
+    let requests = requests.into_iter().chain(edge_requests::numerous());
     for (index, request) in requests.enumerate() {
         progress.doing(format!("edges: {index} of {all} done"));
         let label = Label {

@@ -1,12 +1,13 @@
 //! The edges as requests to the library: the streams of `second edges`, jobs, every byte where an
-//! event can stand, every two bytes in brackets, and rule files.
+//! event can stand, every two bytes in brackets, rule files, and rewritings with every short text
+//! of stars.
 
 use super::call::{Callee, FILE_LINES, FILE_NODES, NODES};
 use super::lent::Dirt;
 use super::request::{Asked, Request};
-use super::{job_edges, rule_file_requests};
+use super::{job_edges, rewritings, rule_file_requests};
 use crate::limits::LETTERS;
-use crate::{edges, job, letter_edges, rule_file_lines, set_edges, table};
+use crate::{edges, job, letter_edges, rule_file_lines, set_edges, star_edges, stars, table};
 
 /// The streams of cases that `second edges` prints, but for `numbers`, which has none with a call.
 const STREAMS: [&str; 5] = ["rules", "days", "judge", "judge-large", "known"];
@@ -23,7 +24,7 @@ const PLAIN_NAMES: [&str; 8] = ["<a>", "a<a>", "a<", "a>", ">", "<>", "(<x>)", "
 /// How many elements a buffer has for the letters or the seconds of a few lines.
 const LINES: usize = 3;
 
-/// All the requests but those with two bytes in brackets, one group after another.
+/// All the requests but the most numerous ones, one group after another.
 pub fn requests() -> Vec<Request> {
     let mut requests = Vec::new();
     for name in STREAMS {
@@ -36,8 +37,9 @@ pub fn requests() -> Vec<Request> {
     requests.extend(jobs.flat_map(in_all_dirt));
     // So many that each comes in ones or in noise alone, by turns.
     let calls = (0..=255).flat_map(with_byte);
-    let calls = calls.chain(about_sets()).enumerate();
+    let calls = calls.chain(about_sets()).chain(about_stars()).enumerate();
     requests.extend(calls.map(|(index, asked)| in_one_dirt(asked, index)));
+    requests.extend(rewritings::calls().flat_map(in_all_dirt));
     requests.extend(PLAIN_NAMES.into_iter().flat_map(with_plain_name));
     // Two neighbours are about one file, and come in the same dirt.
     let calls = rule_file_requests::calls().into_iter().enumerate();
@@ -47,13 +49,29 @@ pub fn requests() -> Vec<Request> {
     requests
 }
 
-/// Every two bytes in brackets, as a rule to read; so many that each is made when it is asked.
+/// The most numerous requests, each of which is made when it is asked.
+pub fn numerous() -> impl Iterator<Item = Request> {
+    pairs().chain(short_texts())
+}
+
+/// Every two bytes in brackets, as a rule to read.
 pub fn pairs() -> impl Iterator<Item = Request> {
     let bytes = || 0..=255;
     let texts = bytes().flat_map(move |one| bytes().map(move |two| set_edges::pair(one, two)));
     texts.enumerate().map(|(index, text)| {
         let nodes = NODES;
         in_one_dirt(Asked::Rule { text, nodes }, index)
+    })
+}
+
+/// Every short text of stars and what may stand beside them, to read and to rewrite.
+pub fn short_texts() -> impl Iterator<Item = Request> {
+    let texts = star_edges::short_texts().enumerate();
+    texts.flat_map(|(index, text)| {
+        // Both the dirt and the room change by turns.
+        let rewriting = [rewritings::exact, rewritings::with_room][index / 2 % 2](&text);
+        let nodes = NODES;
+        [Asked::Rule { text, nodes }, rewriting].map(|asked| in_one_dirt(asked, index))
     })
 }
 
@@ -74,27 +92,29 @@ fn in_one_dirt(asked: Asked, turn: usize) -> Request {
 
 /// A rule with a name in every call that takes a plain rule, where it has no meaning.
 fn with_plain_name(rule: &str) -> Vec<Request> {
-    let text = rule.as_bytes().to_vec();
-    let job = job_edges::job(&text, b"E\t0\ta\n");
-    let nodes = NODES;
-    let calls = [
-        judgement(&text, b"a"),
-        with_room(job),
-        Asked::Rule { text, nodes },
-    ];
+    let calls = with_plain_rule(rule.into(), b"a", b"E\t0\ta\n");
     calls.into_iter().flat_map(in_all_dirt).collect()
 }
 
-/// A job with buffers for its text that have none, one too few, enough and more.
-fn with_outs(bytes: Vec<u8>) -> Vec<Asked> {
-    let length = text_length(&bytes);
-    let mut outs = vec![0, length.saturating_sub(1), length, length + BEYOND];
-    outs.dedup();
-    let asked = |out| Asked::Job {
-        job: bytes.clone(),
-        out,
-    };
-    outs.into_iter().map(asked).collect()
+/// Every call that takes a plain rule, with this one, and with such a word and such a day.
+fn with_plain_rule(text: Vec<u8>, word: &[u8], day: &[u8]) -> [Asked; 4] {
+    let nodes = NODES;
+    [
+        judgement(&text, word),
+        with_room(job_edges::job(&text, day)),
+        rewritings::with_room(&text),
+        Asked::Rule { text, nodes },
+    ]
+}
+
+/// A job with buffers for its text of every kind.
+fn with_outs(job: Vec<u8>) -> Vec<Asked> {
+    let outs = rewritings::outs(text_length(&job)).into_iter();
+    outs.map(|out| {
+        let job = job.clone();
+        Asked::Job { job, out }
+    })
+    .collect()
 }
 
 /// How long the text of a job is; a refused one has none.
@@ -111,17 +131,11 @@ fn with_byte(byte: u8) -> Vec<Asked> {
         calls.extend(words.map(|word| judgement(rule.as_bytes(), &word)));
     }
     for text in letter_edges::rules(byte) {
-        calls.push(judgement(&text, b"aA"));
-        calls.push(with_room(job_edges::job(&text, b"E\t0\ta\nE\t0\tA\n")));
-        let nodes = NODES;
-        calls.push(Asked::Rule { text, nodes });
+        calls.extend(with_plain_rule(text, b"aA", b"E\t0\ta\nE\t0\tA\n"));
     }
     for text in set_edges::with_byte(byte) {
         // All letters, so that a set shows each event that it fits.
-        calls.push(judgement(&text, LETTERS));
-        calls.push(with_room(job_edges::job(&text, b"E\t0\tb\nE\t0\tB\n")));
-        let nodes = NODES;
-        calls.push(Asked::Rule { text, nodes });
+        calls.extend(with_plain_rule(text, LETTERS, b"E\t0\tb\nE\t0\tB\n"));
     }
     for file in letter_edges::days(byte) {
         calls.push(with_room(job_edges::job(b"!a", &file)));
@@ -134,13 +148,23 @@ fn with_byte(byte: u8) -> Vec<Asked> {
     calls
 }
 
-/// The rules about sets where the streams do not have them: judged, and as the line of a file.
+/// The rules about sets where the streams do not have them.
 fn about_sets() -> impl Iterator<Item = Asked> {
-    set_edges::texts().into_iter().flat_map(|text| {
-        let file = rule_file_lines::line("x", &text);
-        let [read, judged] = rule_file_requests::read_and_judged(file);
-        [judgement(&text, b"ab"), read, judged]
-    })
+    set_edges::texts().into_iter().flat_map(judged_and_in_file)
+}
+
+/// The rules about stars where the streams do not have them, and what they are rewritten to.
+fn about_stars() -> impl Iterator<Item = Asked> {
+    let both = |text: Vec<u8>| [stars::with_single(&text), text];
+    let texts = star_edges::texts().into_iter().flat_map(both);
+    texts.flat_map(judged_and_in_file)
+}
+
+/// A rule that is judged, and as the line of a file.
+fn judged_and_in_file(text: Vec<u8>) -> [Asked; 3] {
+    let file = rule_file_lines::line("x", &text);
+    let [read, judged] = rule_file_requests::read_and_judged(file);
+    [judgement(&text, b"ab"), read, judged]
 }
 
 /// A judge call with the highest limit, and with a table for one special node.
@@ -230,6 +254,11 @@ fn good_and_bad_calls() -> Vec<Asked> {
             job: job_edges::job(text, b"E\t0\ta\n"),
             out: 64,
         });
+        // With enough room, and with too little.
+        calls.extend([5, 1].map(|out| Asked::Rewriting {
+            text: text.to_vec(),
+            out,
+        }));
     }
     // Refused by 10, which alone changes the table.
     calls.push(Asked::Judge {

@@ -5,6 +5,7 @@ use crate::letter_edges::{self, ENDS};
 use crate::limits::{LAST_SECOND, LETTERS, MAX_DAY_BYTES, MAX_DAY_LINES, MAX_JOB_BYTES};
 use crate::lines::{good_line, joined};
 use crate::rule_edges::{example_1, run};
+use crate::star_edges::nested_stars;
 use crate::{day_edges, hour_edges, rule_edges, stream::Case};
 
 /// Document 01's whole case.
@@ -125,6 +126,26 @@ const SET_RULES: [&str; 19] = [
     "[^a]",
 ];
 
+/// Rules with stars in a row, good ones and bad ones, each on a few days.
+const STAR_RULES: [&str; 16] = [
+    "(a*)*",
+    "a*b*",
+    "a**",
+    "a***",
+    "(a*)**",
+    "(a**)*",
+    "a**b**",
+    "!!a**",
+    "a**|b",
+    "[ab]**",
+    "a**|",
+    "**",
+    "[ba]**",
+    "a**[ba]",
+    "a**_",
+    "!!!!!!!!a**",
+];
+
 /// The jobs, one group after another.
 pub fn jobs() -> Vec<Vec<u8>> {
     let mut jobs = vec![WHOLE_CASE.to_vec()];
@@ -140,6 +161,7 @@ pub fn jobs() -> Vec<Vec<u8>> {
     jobs.extend(about_bytes());
     jobs.extend(about_letters());
     jobs.extend(about_sets());
+    jobs.extend(about_stars());
     jobs
 }
 
@@ -206,7 +228,7 @@ fn about_words() -> Vec<Vec<u8>> {
         jobs.push(of_word(b"ab", &repeated("ab", n)));
         jobs.push(of_word(b"!(a*)&!(b*)", &repeated("aab", n)));
     }
-    let stars = [run("a", 1), run("*", 63)].concat();
+    let stars = nested_stars("a", 63);
     jobs.push(job(&stars, &long_lines(MAX_DAY_LINES)));
     jobs.push(job(b"!!!!!!!0", &long_lines(MAX_DAY_LINES)));
     jobs.push(job(b"0", &long_lines(MAX_DAY_LINES)));
@@ -267,15 +289,30 @@ fn about_letters() -> Vec<Vec<u8>> {
     jobs
 }
 
+/// Each of the rules on each of the words.
+fn on_words(rules: &[&str], words: &[&str]) -> Vec<Vec<u8>> {
+    let on_word = |rule: &str, word: &str| of_word(rule.as_bytes(), word.as_bytes());
+    let on_all = |rule: &&str| words.iter().map(|word| on_word(rule, word)).collect();
+    rules.iter().flat_map::<Vec<_>, _>(on_all).collect()
+}
+
 /// Sets in rules, and brackets that are no events.
 fn about_sets() -> Vec<Vec<u8>> {
-    let words: [&[u8]; 3] = [b"", b"aZb", b"zab"];
-    let on_words = |rule: &str| words.map(|word| of_word(rule.as_bytes(), word));
-    let mut jobs: Vec<Vec<u8>> = SET_RULES.into_iter().flat_map(on_words).collect();
+    let mut jobs = on_words(&SET_RULES, &["", "aZb", "zab"]);
     jobs.extend([&b"["[..], b"]", b"."].map(|event| of_word(b"[ab]", event)));
     for set in [".", "[ab]", "[ba]"] {
         jobs.extend([32, 33].map(|times| of_word(&run(set, times), b"a")));
     }
     jobs.extend(["[ab]", "[ba]"].map(|set| of_word(&[run("!", 8), set.into()].concat(), b"a")));
+    jobs
+}
+
+/// Stars in a row, and so many that 21 comes before 5.
+fn about_stars() -> Vec<Vec<u8>> {
+    let mut jobs = on_words(&STAR_RULES, &["", "aab"]);
+    let rules = [63, 64].map(|stars| [run("a", 1), run("*", stars)].concat());
+    jobs.extend(rules.iter().map(|rule| of_word(rule, b"a")));
+    // A bad day comes later.
+    jobs.push(job(b"a**", b"E\n"));
     jobs
 }

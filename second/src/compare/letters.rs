@@ -31,7 +31,9 @@ impl Letters {
     pub fn of(callee: Callee) -> &'static [Letters] {
         use Letters::*;
         match callee {
-            Callee::ReadRule | Callee::ReadRuleFile => &[CapitalInRule, BetweenInRule],
+            Callee::ReadRule | Callee::ReadRuleFile | Callee::RewriteRule => {
+                &[CapitalInRule, BetweenInRule]
+            }
             Callee::ReadDay => &[CapitalInDay, BetweenInDay],
             Callee::Judge | Callee::JudgeRuleFile => {
                 &[CapitalInRule, CapitalInWord, BetweenInRule, BetweenInWord]
@@ -61,7 +63,7 @@ impl fmt::Display for Letters {
 pub fn shown(asked: &Asked, number: u32, place: usize) -> Vec<Letters> {
     let mut parts = Parts::default();
     match asked {
-        Asked::Rule { text, .. } => parts.rule = text,
+        Asked::Rule { text, .. } | Asked::Rewriting { text, .. } => parts.rule = text,
         Asked::Day { file, .. } => parts.day = file,
         Asked::Judge { rule, word, .. } => (parts.rule, parts.word) = (rule, word),
         Asked::Job { job, .. } => return shown_by_job(job, number, place),

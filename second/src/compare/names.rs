@@ -9,7 +9,7 @@ use crate::named_rule::{parts, Part};
 use crate::rule_file;
 
 /// The refusals that can come at any line, but for 18, which cannot at the first one.
-const OF_ANY_LINE: [u32; 10] = [1, 2, 3, 4, 5, 6, 16, 17, 18, 20];
+const OF_ANY_LINE: [u32; 11] = [1, 2, 3, 4, 5, 6, 16, 17, 18, 20, 21];
 
 /// The number of a name that is taken.
 const TAKEN: u32 = 18;

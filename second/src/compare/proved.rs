@@ -66,6 +66,14 @@ extern "C" {
         answer: *mut u64,
         answer_len: usize,
     ) -> u64;
+    fn wuz_rewrite_rule(
+        text: *const u8,
+        text_len: usize,
+        out: *mut u8,
+        out_len: usize,
+        answer: *mut u64,
+        answer_len: usize,
+    ) -> u64;
 }
 
 /// Does a call on a small stack, in a thread with the case's name; gives what it returns.
@@ -118,6 +126,7 @@ fn run_here(call: Call<'_>) -> u64 {
             table,
             answer,
         } => judge_rule_file(file, word, limit, table, answer),
+        Call::RewriteRule { text, out, answer } => rewrite_rule(text, out, answer),
     }
 }
 
@@ -212,6 +221,19 @@ fn judge_rule_file(
             limit,
             table.as_mut_ptr(),
             table.len(),
+            answer.as_mut_ptr(),
+            answer.len(),
+        )
+    }
+}
+
+fn rewrite_rule(text: &[u8], out: &mut [u8], answer: &mut [u64]) -> u64 {
+    unsafe {
+        wuz_rewrite_rule(
+            text.as_ptr(),
+            text.len(),
+            out.as_mut_ptr(),
+            out.len(),
             answer.as_mut_ptr(),
             answer.len(),
         )

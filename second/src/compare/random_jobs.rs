@@ -5,6 +5,7 @@ use crate::generate::{any_byte, change_byte, spoil_leaf};
 use crate::limits::{LAST_SECOND, MAX_JOB_BYTES, MAX_RULE_BYTES};
 use crate::lines::{good_line, joined, Line};
 use crate::random::Random;
+use crate::random_stars::repeat_stars;
 use crate::{random_calls, random_days, random_rules};
 
 /// What may stand for the `R` and the tab.
@@ -89,7 +90,7 @@ fn word_length(random: &mut Random) -> usize {
 
 /// Damages one part.
 fn damage(random: &mut Random, parts: &mut Parts) {
-    match random.below(11) {
+    match random.below(12) {
         0 => parts.lead = random.pick(&WRONG_LEADS).to_vec(),
         1 => parts.end = random.pick(&WRONG_ENDS).to_vec(),
         2 => parts.rule = bad_rule(random),
@@ -98,6 +99,7 @@ fn damage(random: &mut Random, parts: &mut Parts) {
             change_byte(random, &mut parts.rule, byte, usize::MAX);
         }
         4 => spoil_leaf(random, &mut parts.rule, usize::MAX),
+        5 => repeat_stars(random, &mut parts.rule, usize::MAX),
         _ => random_days::damage(random, &mut parts.lines),
     }
 }

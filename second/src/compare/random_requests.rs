@@ -1,4 +1,4 @@
-//! Random requests to the library: all six calls, and buffers of every length about the need.
+//! Random requests to the library: all seven calls, and buffers of every length about the need.
 
 use super::call::{FILE_LINES, FILE_NODES, NODES};
 use super::edge_requests::text_length;
@@ -7,12 +7,15 @@ use super::lent::Dirt;
 use super::random_jobs::{self, deeply_nested, LENGTHS};
 use super::random_rule_files;
 use super::request::{Asked, Request};
+use super::rewritings::rewritten_length;
 use super::rule_file_requests::FileCall;
 use crate::calls::Call;
 use crate::generate::{any_byte, change_byte};
 use crate::judge_edges::BAD_RULES;
-use crate::limits::{is_event, MAX_SPECIAL, MAX_WORD};
+use crate::limits::{is_event, MAX_RULE_BYTES, MAX_SPECIAL, MAX_WORD};
 use crate::random::Random;
+use crate::random_stars::repeat_stars;
+use crate::stars::with_single;
 use crate::stream::Case;
 use crate::{day_edges, random_calls, random_days, random_rules};
 use crate::{rule_edges, rule_file, rule_file_edges, table};
@@ -54,7 +57,7 @@ impl Draws {
 
     /// A random request.
     pub fn request(&self, random: &mut Random) -> Request {
-        let asked = match random.below(26) {
+        let asked = match random.below(30) {
             0..=4 => self.rule(random),
             5..=9 => self.day(random),
             10..=15 => judgement(random),
@@ -63,6 +66,7 @@ impl Draws {
                 let file = self.any_rule_file(random);
                 with_word(random, file)
             }
+            22..=25 => self.rewriting(random),
             _ => {
                 let job = self.job(random);
                 with_out(random, job)
@@ -71,16 +75,33 @@ impl Draws {
         lend(random, asked)
     }
 
-    /// A rule text to read.
-    fn rule(&self, random: &mut Random) -> Asked {
-        let text = match random.below(24) {
+    /// A rule text, an edge or near to one now and then.
+    fn rule_text(&self, random: &mut Random) -> Vec<u8> {
+        match random.below(24) {
             0 => {
                 let more = random.below(2);
                 deeply_nested(random, more)
             }
             1..=6 => near_edge(random, &self.rules),
             _ => random_rules::text(random),
-        };
+        }
+    }
+
+    /// A rule text to rewrite: half of them get more stars, and some have been rewritten before.
+    fn rewriting(&self, random: &mut Random) -> Asked {
+        let mut text = self.rule_text(random);
+        match random.below(8) {
+            0..=3 => repeat_stars(random, &mut text, MAX_RULE_BYTES + 2),
+            4 => text = with_single(&text),
+            _ => {}
+        }
+        let out = out_length(random, rewritten_length(&text));
+        Asked::Rewriting { text, out }
+    }
+
+    /// A rule text to read.
+    fn rule(&self, random: &mut Random) -> Asked {
+        let text = self.rule_text(random);
         let nodes = match random.below(16) {
             0 => random.pick(&[0, 1, NODES / 2, NODES - 1]),
             _ => NODES + random.below(5),
@@ -238,14 +259,18 @@ fn with_word(random: &mut Random, file: Vec<u8>) -> Asked {
 
 /// A job with a buffer for its text: mostly enough, else one byte too few or none.
 pub fn with_out(random: &mut Random, job: Vec<u8>) -> Asked {
-    let length = text_length(&job);
-    let out = match random.below(8) {
+    let out = out_length(random, text_length(&job));
+    Asked::Job { job, out }
+}
+
+/// The length of a buffer for a text of such a length.
+fn out_length(random: &mut Random, length: usize) -> usize {
+    match random.below(8) {
         0 => length.saturating_sub(1),
         1 => 0,
         2..=4 => length,
         _ => length + 5,
-    };
-    Asked::Job { job, out }
+    }
 }
 
 /// Lends the call an answer, seldom too short a one, and dirt in everything.

@@ -4,6 +4,7 @@ use crate::generate::{alphabet, any_byte, change_byte, sentence, spoil_leaf, Bou
 use crate::limits::{MAX_NODES, MAX_RULE_BYTES, MAX_RULE_LINES, MAX_SPECIAL};
 use crate::named_rule;
 use crate::random::Random;
+use crate::random_stars::repeat_stars;
 use crate::refusal::Reason;
 use crate::rule::Rule;
 use crate::rule_file::Line;
@@ -198,8 +199,8 @@ fn renamed(line: &[u8], name: &[u8]) -> Vec<u8> {
     renamed
 }
 
-/// Changes a few bytes, changes the order of the lines, spoils a leaf of a line, or takes some
-/// bytes off the end.
+/// Changes a few bytes, changes the order of the lines, spoils a leaf or stars of a line, or takes
+/// some bytes off the end.
 fn damage(random: &mut Random, file: &mut Vec<u8>) {
     match random.below(7) {
         0 => file.truncate(random.below(file.len() + 1)),
@@ -230,11 +231,12 @@ fn damage(random: &mut Random, file: &mut Vec<u8>) {
     }
 }
 
-/// Spoils a leaf in the rule of a line.
+/// Spoils a leaf in the rule of a line, or puts in stars after stars.
 fn spoil_line(random: &mut Random, line: &mut Vec<u8>) {
     let last_tab = line.iter().rposition(|&byte| byte == b'\t');
     let mut rule = line.split_off(last_tab.map_or(0, |tab| tab + 1));
-    spoil_leaf(random, &mut rule, usize::MAX);
+    let spoil = random.pick(&[spoil_leaf, repeat_stars]);
+    spoil(random, &mut rule, usize::MAX);
     line.extend(rule);
 }
 
@@ -255,7 +257,7 @@ fn chain(random: &mut Random) -> Vec<u8> {
         }
     };
     if random.one_in(8) {
-        last.push_str(random.pick(&["|", "_", "<zz>", ")", "[ba]"]));
+        last.push_str(random.pick(&["|", "_", "<zz>", ")", "[ba]", "**"]));
     }
     Chain::nested(letter, depth).then(&last).file
 }
@@ -283,5 +285,6 @@ fn long_rule(random: &mut Random, nodes: usize) -> String {
         // What joins it to those before is one more.
         left -= nodes + 1;
     }
-    rule + &"*".repeat(left)
+    // Each star is around all before it, so that none directly follows another one.
+    (0..left).fold(rule, |rule, _| format!("({rule})*"))
 }

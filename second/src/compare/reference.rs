@@ -3,8 +3,9 @@
 //! Each gives its number, or none where a buffer is too short for any answer; then nothing changes.
 
 use super::call::{Call, Callee, FILE_LINES, FILE_NODES, NODES, UNANSWERED};
+use crate::refusal::{Reason, Refusal};
 use crate::rule::{Kind, Node, Rule};
-use crate::{day, job, judge, refusal::Reason, rule, rule_file};
+use crate::{day, job, judge, rewrite, rule, rule_file};
 
 /// Does a call.
 pub fn run(call: Call<'_>) -> Option<u32> {
@@ -41,6 +42,7 @@ pub fn run(call: Call<'_>) -> Option<u32> {
             table,
             answer,
         } => write_judgement(judge::judge_file, [file, word], limit, table, answer),
+        Call::RewriteRule { text, out, answer } => rewrite_rule(text, out, answer),
     }
 }
 
@@ -123,11 +125,22 @@ fn read_day(
     answer: &mut [u64],
 ) -> Option<u32> {
     let answer = answer.get_mut(..Callee::ReadDay.answer_length())?;
-    match day::read(file, letters, seconds) {
+    Some(answer_length(answer, day::read(file, letters, seconds)))
+}
+
+/// Rewrites a rule text into a buffer.
+fn rewrite_rule(text: &[u8], out: &mut [u8], answer: &mut [u64]) -> Option<u32> {
+    let answer = answer.get_mut(..Callee::RewriteRule.answer_length())?;
+    Some(answer_length(answer, rewrite::rewrite(text, out)))
+}
+
+/// Answers with the length of what was written, or with the refusal; gives the number.
+fn answer_length(answer: &mut [u64], written: Result<usize, Refusal>) -> u32 {
+    match written {
         Ok(n) => answer.copy_from_slice(&[0, 0, 0, 0, n as u64]),
-        Err(refusal) => return Some(refuse(answer, refusal.number(), refusal.place)),
+        Err(refusal) => return refuse(answer, refusal.number(), refusal.place),
     }
-    Some(0)
+    0
 }
 
 /// One of the two judges, of a rule text or of a rule file.

@@ -48,6 +48,10 @@ pub enum Asked {
         limit: u64,
         table: usize,
     },
+    Rewriting {
+        text: Vec<u8>,
+        out: usize,
+    },
 }
 
 impl Asked {
@@ -90,6 +94,7 @@ impl Asked {
             Asked::Job { .. } => Callee::RunJob,
             Asked::RuleFile { .. } => Callee::ReadRuleFile,
             Asked::JudgeFile { .. } => Callee::JudgeRuleFile,
+            Asked::Rewriting { .. } => Callee::RewriteRule,
         }
     }
 }
@@ -142,6 +147,9 @@ impl fmt::Display for Asked {
                 let (file, word) = (shown_bytes(file), shown_bytes(word));
                 write!(formatter, "file {file}, word {word}, ")?;
                 write!(formatter, "limit {limit}, table of {table}")
+            }
+            Asked::Rewriting { text, out } => {
+                write!(formatter, "text {}, out of {out}", shown_bytes(text))
             }
         }
     }

@@ -43,7 +43,7 @@ impl fmt::Display for Sets {
 /// What a call shows if such a number and place should come.
 pub fn shown(asked: &Asked, number: u32, place: usize) -> Vec<Sets> {
     match asked {
-        Asked::Rule { text, .. } => shown_by_rule(text, number),
+        Asked::Rule { text, .. } | Asked::Rewriting { text, .. } => shown_by_rule(text, number),
         Asked::Judge { rule, .. } => shown_by_rule(rule, number),
         Asked::Job { job, .. } => shown_by_job(job, number),
         Asked::RuleFile { file, .. } | Asked::JudgeFile { file, .. } => {

@@ -103,6 +103,7 @@ pub fn borrowed<'a>(call: &'a mut Call<'_>) -> Call<'a> {
             table,
             answer,
         },
+        Call::RewriteRule { text, out, answer } => Call::RewriteRule { text, out, answer },
     }
 }
 
@@ -114,7 +115,8 @@ pub fn answer<'a>(call: &'a mut Call<'_>) -> &'a mut [u64] {
         | Call::Judge { answer, .. }
         | Call::RunJob { answer, .. }
         | Call::ReadRuleFile { answer, .. }
-        | Call::JudgeRuleFile { answer, .. } => answer,
+        | Call::JudgeRuleFile { answer, .. }
+        | Call::RewriteRule { answer, .. } => answer,
     }
 }
 
@@ -172,8 +174,16 @@ fn file_judgement(limit: u64) -> Asked {
     }
 }
 
+/// Rewrites a text that becomes `(a*)*b*`, of 7 bytes.
+fn rewriting(out: usize) -> Asked {
+    Asked::Rewriting {
+        text: b"(a**)***b**".to_vec(),
+        out,
+    }
+}
+
 /// One of each call, accepted.
-fn all() -> [Asked; 6] {
+fn all() -> [Asked; 7] {
     [
         rule(),
         day(3, 4),
@@ -181,6 +191,7 @@ fn all() -> [Asked; 6] {
         job(40),
         rule_file(FILE_LINES + 2),
         file_judgement(7),
+        rewriting(9),
     ]
 }
 
@@ -210,6 +221,9 @@ fn the_number_that_should_come_is_told() {
     assert_eq!(kind(rule_file(31), 5), Kind::Unanswered);
     assert_eq!(kind(rule_file(32), 5), Kind::Number(0));
     assert_eq!(kind(file_judgement(6), 4), Kind::Number(10));
+    assert_eq!(kind(rewriting(7), 5), Kind::Number(0));
+    assert_eq!(kind(rewriting(6), 5), Kind::Number(15));
+    assert_eq!(kind(rewriting(7), 4), Kind::Unanswered);
 }
 
 #[test]
@@ -234,6 +248,7 @@ fn the_returned_number_is_compared() {
     let mut calls = calls.to_vec();
     calls.extend([job(40), job(0), rule_file(FILE_LINES)]);
     calls.extend([file_judgement(7), file_judgement(6)]);
+    calls.extend([rewriting(9), rewriting(7), rewriting(6)]);
     let place = |asked: &Asked, answer, changed| place_of(asked.clone(), answer, |_| (), changed);
     let found = Some("the number returned".to_string());
     for asked in &calls {
@@ -290,6 +305,7 @@ fn every_buffer_is_compared_to_its_last_element() {
         Call::RunJob { out, .. } => *out.last_mut().unwrap() ^= 1,
         Call::ReadRuleFile { nodes, .. } => *nodes.last_mut().unwrap() ^= 1,
         Call::JudgeRuleFile { table, .. } => *table.last_mut().unwrap() ^= 1,
+        Call::RewriteRule { out, .. } => *out.last_mut().unwrap() ^= 1,
     };
     let places = [
         "nodes[129]",
@@ -298,6 +314,7 @@ fn every_buffer_is_compared_to_its_last_element() {
         "out[39]",
         "nodes[2050]",
         "table[20]",
+        "out[8]",
     ];
     for (asked, expected) in all().into_iter().zip(places) {
         // With an answer that is long enough and with one that is not.
@@ -330,6 +347,11 @@ fn a_buffer_touched_on_a_refusal_is_found() {
         _ => unreachable!("a job is run"),
     });
     assert!(found.unwrap().starts_with("out[0]"));
+    let found = place(rewriting(6), 5, |call| match call {
+        Call::RewriteRule { out, .. } => out[5] = b'b',
+        _ => unreachable!("a rule is rewritten"),
+    });
+    assert!(found.unwrap().starts_with("out[5]"));
     // On 10 all of the needed numbers are 0, and no other changes.
     let mistakes: [(&str, Mistake); 3] = [
         ("table[0]", |call| change_table(call, 0)),

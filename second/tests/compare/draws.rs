@@ -9,7 +9,7 @@ use second::compare::random_requests::{source, Draws};
 use second::compare::request::{Asked, Request};
 use second::job;
 use second::judge::{judge, judge_file};
-use second::{rule, rule_file};
+use second::{rewrite, rule, rule_file};
 
 /// Draws the first requests of a seed.
 fn requests(seed: u64, count: usize) -> Vec<Request> {
@@ -144,13 +144,34 @@ fn note_job(bounds: &mut BTreeSet<String>, bytes: &[u8], out: usize) {
             let length = report.lines().len();
             note(bounds, bytes.contains(&b'['), "job with brackets");
             note(bounds, bytes.contains(&b'.'), "job with dot");
-            note(bounds, out == 0, "out none");
-            note(bounds, out + 1 == length, "out short");
-            note(bounds, out == length, "out exact");
-            note(bounds, out == length + 5, "out long");
+            note_out(bounds, out, length, "out");
         }
         Err((number, _)) => note(bounds, true, format!("job {number}")),
     }
+}
+
+/// Notes the bounds of a buffer for a text; the name is that of the buffer.
+fn note_out(bounds: &mut BTreeSet<String>, out: usize, length: usize, name: &str) {
+    note(bounds, out == 0, format!("{name} none"));
+    note(bounds, out + 1 == length, format!("{name} short"));
+    note(bounds, out == length, format!("{name} exact"));
+    note(bounds, out == length + 5, format!("{name} long"));
+}
+
+/// Notes the bounds of a rewriting.
+fn note_rewriting(bounds: &mut BTreeSet<String>, text: &[u8], out: usize) {
+    let rewritten = match rewrite::rewritten(text) {
+        Ok(rewritten) => rewritten,
+        Err(refusal) => return note(bounds, true, format!("rewriter {}", refusal.number())),
+    };
+    note_out(bounds, out, rewritten.len(), "rewriting");
+    let lost = text.len() - rewritten.len();
+    note(bounds, lost == 0, "rewritten to itself");
+    note(bounds, lost == 1, "one star lost");
+    note(bounds, lost > 30, "many stars lost");
+    note(bounds, text.len() == 255, "rewritten from 255");
+    note(bounds, text.contains(&b'['), "rewritten brackets");
+    note(bounds, text.starts_with(b"!"), "rewritten complement");
 }
 
 /// Notes the bounds of a rule file.
@@ -197,7 +218,7 @@ fn note_file_judge(
 #[test]
 fn every_bound_is_drawn() {
     let mut bounds = BTreeSet::new();
-    for request in requests(1, 6_000) {
+    for request in requests(2, 7_000) {
         note(&mut bounds, request.dirt == Dirt::Ones, "ones");
         note(&mut bounds, request.dirt != Dirt::Ones, "noise");
         let need = request.asked.callee().answer_length();
@@ -231,6 +252,7 @@ fn every_bound_is_drawn() {
                 limit,
                 table,
             } => note_file_judge(&mut bounds, file, word, *limit, *table),
+            Asked::Rewriting { text, out } => note_rewriting(&mut bounds, text, *out),
         }
     }
     let expected =
@@ -250,7 +272,10 @@ fn every_bound_is_drawn() {
         day at 90000;job in hour 25;job after hour 25;job at 86399;job at 86400;job at 89999;\
         job at 90000;rule 20;judge 20;job 20;file 20;rule with brackets;rule with dot;\
         judge with brackets;judge with dot;job with brackets;job with dot;file with brackets;\
-        file with dot";
+        file with dot;rule 21;judge 21;job 21;file 21;rewriter 1;rewriter 2;rewriter 3;rewriter 4;\
+        rewriter 5;rewriter 6;rewriter 20;rewriting none;rewriting short;rewriting exact;\
+        rewriting long;rewritten to itself;one star lost;many stars lost;rewritten from 255;\
+        rewritten brackets;rewritten complement";
     for bound in expected.split(';') {
         assert!(bounds.contains(bound), "{bound} was not drawn");
     }

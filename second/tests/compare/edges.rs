@@ -26,5 +26,5 @@ fn every_known_judge_call_is_asked() {
         assert!(requests.iter().any(|request| request.asked == asked));
         calls += 1;
     }
-    assert_eq!(calls, 58);
+    assert_eq!(calls, 64);
 }

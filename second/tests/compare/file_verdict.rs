@@ -3,7 +3,7 @@
 use second::rule::check_sentence;
 
 /// The numbers of a line in the order in which they are looked for.
-pub const ORDER: [u64; 10] = [16, 18, 1, 2, 3, 4, 17, 20, 5, 6];
+pub const ORDER: [u64; 11] = [16, 18, 1, 2, 3, 4, 17, 20, 21, 5, 6];
 
 /// A mistake.
 #[derive(Debug, PartialEq)]
@@ -54,6 +54,12 @@ pub enum Wrong {
     PlaceOfFallenLetter,
     /// A name may stand in brackets.
     NamesInBrackets,
+    /// 21 never comes.
+    RepeatedStarsTaken,
+    /// The place of 21 is the star's offset.
+    PlaceOfStar,
+    /// 21 comes for a star behind a name whose rule ends in a star.
+    StarsThroughNames,
 }
 
 /// A line in its parts, as far as it has them.
@@ -126,6 +132,7 @@ fn place(number: u64, index: usize, line: &Parts, wrong: &Wrong) -> u64 {
             line.rule.iter().position(|&byte| is_foreign(byte)).unwrap()
         }
         Wrong::PlaceOfFallenLetter if number == 20 => fallen(line.rule, u8::le).unwrap(),
+        Wrong::PlaceOfStar if number == 21 => repeated_star(line.rule).unwrap(),
         Wrong::PlaceFromZero => index,
         _ => index + 1,
     };
@@ -170,6 +177,12 @@ fn holds(number: u64, line: &Parts, from_here: &[Parts], known: &[Known], wrong:
         4 => check_sentence(&form()).is_err(),
         20 if *wrong == Wrong::EqualLettersTaken => fallen(line.rule, u8::lt).is_some(),
         20 => fallen(line.rule, u8::le).is_some(),
+        21 if *wrong == Wrong::RepeatedStarsTaken => false,
+        21 if *wrong == Wrong::StarsThroughNames => {
+            let bare: Vec<u8> = text().into_iter().filter(|&byte| byte != b')').collect();
+            repeated_star(&bare).is_some()
+        }
+        21 => repeated_star(line.rule).is_some(),
         17 => names(line.rule, wrong).any(|name| !is_known(name, from_here, known, wrong)),
         5 if *wrong == Wrong::NodesAsWritten => count(&form()).0 > 64,
         5 => count(&text()).0 > 64,
@@ -328,6 +341,11 @@ fn fallen(rule: &[u8], falls: fn(&u8, &u8) -> bool) -> Option<usize> {
         }
     }
     None
+}
+
+/// The first star after a star.
+fn repeated_star(rule: &[u8]) -> Option<usize> {
+    (1..rule.len()).find(|&at| rule[..=at].ends_with(b"**"))
 }
 
 /// The nodes and the special nodes of a text, whether it is a sentence or not.

@@ -33,11 +33,33 @@ fn the_edges_that_document_01_names_are_there() {
     check_among(&jobs, b"E\tE\nE\t0\tE\n", "X\t16\t0\n");
     check_among(&jobs, b"R\tE\nR\tE\nE\t0\tE\n", "X\t12\t1\n");
     let day = "E\t89999\ta\n".repeat(255);
-    let stars = format!("R\ta{}\n{day}", "*".repeat(63));
+    let stars = format!("R\t{}a*{}\n{day}", "(".repeat(62), ")*".repeat(62));
     check_among(&jobs, stars.as_bytes(), "H\t255\t64\t0\t32896\t");
     let nested = format!("R\t{}a{}\n{day}", "(".repeat(127), ")".repeat(127));
     check_among(&jobs, nested.as_bytes(), "H\t255\t1\t0\t255\t511\n");
     check_among(&jobs, format!("{nested}E").as_bytes(), "X\t11\t0\n");
+}
+
+#[test]
+fn the_edges_of_stars_are_there() {
+    let jobs = jobs();
+    let check = |rule: &str, printed: &str| {
+        check_among(&jobs, format!("R\t{rule}\n").as_bytes(), printed);
+    };
+    check("(a*)*", "H\t0\t3\t0\t1\t");
+    check("a**", "X\t21\t2\n");
+    check("(a*)**", "X\t21\t5\n");
+    check("!!a**", "X\t21\t4\n");
+    check("a**|", "X\t4\t4\n");
+    check("**", "X\t4\t0\n");
+    check("[ba]**", "X\t20\t2\n");
+    check("a**[ba]", "X\t20\t5\n");
+    check("!!!!!!!!a**", "X\t21\t10\n");
+    check_among(&jobs, b"R\ta**\nE\n", "X\t21\t2\n");
+    for stars in [63, 64] {
+        let job = format!("R\ta{}\nE\t0\ta\n", "*".repeat(stars));
+        check_among(&jobs, job.as_bytes(), "X\t21\t2\n");
+    }
 }
 
 #[test]

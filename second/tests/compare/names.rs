@@ -75,7 +75,7 @@ fn long_offsets_are_seen() {
 #[test]
 fn every_refusal_at_every_line_has_to_come_among_the_edges() {
     let all = refusals_at_lines();
-    assert_eq!(all.len(), 10 * 16 - 1);
+    assert_eq!(all.len(), 11 * 16 - 1);
     assert!(!all.contains(&Kind::AtLine(18, 1)));
     for callee in [Callee::ReadRuleFile, Callee::JudgeRuleFile] {
         let (_, edges) = callee.required_of_edges();

@@ -297,3 +297,79 @@ fn a_rule_file_is_judged_by_its_last_line() {
     let (number, answer, _) = judge_rule_file(b"R\tx\ta\nR\ty\t<z>\n", &[b'_'; 256], 0, [4, 0]);
     assert_eq!((number, answer), (Some(17), vec![17, 2, 0, 0]));
 }
+
+/// Rewrites a rule; gives the number, the answer and the text's buffer.
+fn rewrite_rule(text: &[u8], out: usize, answer: usize) -> (Option<u32>, Vec<u64>, Vec<u8>) {
+    let (mut answer, mut out) = (vec![KEPT; answer], vec![b'?'; out]);
+    let number = run(Call::RewriteRule {
+        text,
+        out: &mut out,
+        answer: &mut answer,
+    });
+    (number, answer, out)
+}
+
+#[test]
+fn a_rewriting_writes_its_text_and_nothing_beyond() {
+    let answer = vec![0, 0, 0, 0, 2, KEPT];
+    assert_eq!(
+        rewrite_rule(b"a***", 4, 6),
+        (Some(0), answer.clone(), b"a*??".to_vec())
+    );
+    let exact = (Some(0), answer, b"a*".to_vec());
+    assert_eq!(rewrite_rule(b"a***", 2, 6), exact);
+    let (number, answer, out) = rewrite_rule(b"(a*)*", 5, 5);
+    assert_eq!((number, answer), (Some(0), vec![0, 0, 0, 0, 5]));
+    assert_eq!(out, b"(a*)*");
+}
+
+#[test]
+fn a_refused_rewriting_leaves_its_buffer() {
+    let many = |count: usize| [&b"a"[..], &vec![b'*'; count]].concat();
+    let refused: [(&[u8], usize, [u64; 2]); 9] = [
+        (b"", 3, [1, 0]),
+        (&many(255), 3, [2, 0]),
+        (b"a**_", 3, [3, 3]),
+        (b"a**|", 3, [4, 4]),
+        (b"a**[ba]", 3, [20, 5]),
+        (&many(64), 3, [5, 0]),
+        (b"!!!!!!!!a**", 3, [6, 0]),
+        (b"a***", 1, [15, 0]),
+        (b"a", 0, [15, 0]),
+    ];
+    for (text, out, [number, place]) in refused {
+        let answer = vec![number, place, 0, 0, 0, KEPT];
+        let expected = (Some(number as u32), answer, vec![b'?'; out]);
+        assert_eq!(rewrite_rule(text, out, 6), expected);
+    }
+}
+
+#[test]
+fn a_rewriting_without_room_for_its_answer_is_left() {
+    for answer in 0..5 {
+        for text in [&b"a**"[..], b"a", b"", b"a**|"] {
+            let left = (None, vec![KEPT; answer], vec![b'?'; 9]);
+            assert_eq!(rewrite_rule(text, 9, answer), left);
+        }
+    }
+}
+
+#[test]
+fn a_star_after_a_star_is_21_in_every_call_that_refuses_it() {
+    let refused = vec![21, 2, 0, 0, 0, 0];
+    let kept = vec![KEPT; 128];
+    assert_eq!(read_rule(b"a**", 6, 128), (Some(21), refused, kept));
+    let (number, answer, table) = judge(b"(a*)**", b"_", 0, 3);
+    assert_eq!((number, answer), (Some(21), vec![21, 5, 0, 0, KEPT]));
+    assert_eq!(table, [KEPT; 3]);
+    let (number, answer, out) = run_job(b"R\ta**\nE\n", 2);
+    assert_eq!((number, answer), (Some(21), vec![21, 2, 0, 0, 0, KEPT]));
+    assert_eq!(out, b"??");
+    let file = b"R\tx\ta*\nR\ty\t<x>**\n";
+    let (number, answer, lines, nodes) = read_rule_file(file, [5, 32, 2_048]);
+    assert_eq!((number, answer), (Some(21), vec![21, 2, 0, 0, 0]));
+    assert_eq!((lines, nodes), (vec![KEPT; 32], vec![KEPT; 2_048]));
+    let (number, answer, table) = judge_rule_file(file, b"_", 0, [4, 1]);
+    assert_eq!((number, answer), (Some(21), vec![21, 2, 0, 0]));
+    assert_eq!(table, [KEPT]);
+}

@@ -1,4 +1,5 @@
-//! Number and place of a plain rule by a reading of its own, and with one mistake made about sets.
+//! Number and place of a plain rule by a reading of its own, and with one mistake made about sets or
+//! stars.
 
 use second::rule::check_sentence;
 
@@ -38,23 +39,53 @@ pub enum Wrong {
     NodesByLetters,
     /// The place of 4 in brackets is the opening one.
     BrokenAtBracket,
+    /// 21 never comes.
+    RepeatedTaken,
+    /// The place of 21 is the star before.
+    PlaceOfStarBefore,
+    /// The place of 21 is the last such star.
+    LastRepeated,
+    /// Two stars may follow each other, three may not.
+    TwoTaken,
+    /// Only stars at the end are looked at.
+    AtEndAlone,
+    /// A star behind parentheses that end in a star is 21, too.
+    ThroughParentheses,
+    /// A complement directly after a complement is 21, too.
+    RepeatedComplements,
+    /// 5 counts a run of stars as one node.
+    NodesByRuns,
+    /// The place of 4 is that in the text with single stars.
+    BrokenInRewritten,
+    /// The rewriter gives 21.
+    RewriterRefuses,
 }
 
 /// The numbers in the order in which they are looked for.
-const ORDER: [u64; 7] = [1, 2, 3, 4, 20, 5, 6];
+const ORDER: [u64; 8] = [1, 2, 3, 4, 20, 21, 5, 6];
 
 /// Number and place of a rule.
 pub fn verdict(rule: &[u8], wrong: Wrong) -> (u64, u64) {
+    numbers(rule, wrong).next().unwrap_or((0, 0))
+}
+
+/// Number and place of a rule that is rewritten, but for 15.
+pub fn rewriter_verdict(rule: &[u8], wrong: Wrong) -> (u64, u64) {
+    let asked = |(number, _): &(u64, u64)| *number != 21 || wrong == Wrong::RewriterRefuses;
+    numbers(rule, wrong).find(asked).unwrap_or((0, 0))
+}
+
+/// All numbers that hold of a rule, in their order, with their places.
+fn numbers(rule: &[u8], wrong: Wrong) -> impl Iterator<Item = (u64, u64)> + '_ {
     let mut order = ORDER;
     if let Wrong::Before(one, other) = wrong {
         let index = |number: u64| ORDER.iter().position(|&any| any == number).unwrap();
         order[index(other)..=index(one)].rotate_right(1);
     }
-    let places = order.into_iter().filter_map(|number| {
+    order.into_iter().filter_map(move |number| {
         let place = place(number, rule, wrong)?;
         Some((number, place as u64))
-    });
-    places.into_iter().next().unwrap_or((0, 0))
+    })
 }
 
 /// The place of a number, if it holds of a rule.
@@ -66,6 +97,8 @@ fn place(number: u64, rule: &[u8], wrong: Wrong) -> Option<usize> {
         3 => rule.iter().position(|&byte| is_foreign(byte, wrong)),
         4 => broken(rule, wrong),
         20 => fallen_place(rule, wrong),
+        21 => repeated_place(rule, wrong),
+        5 if wrong == Wrong::NodesByRuns => at_0(count(&with_single(rule)).0 > 64),
         5 if wrong == Wrong::NodesByLetters => {
             let bare: Vec<u8> = rule
                 .iter()
@@ -100,6 +133,9 @@ fn broken(rule: &[u8], wrong: Wrong) -> Option<usize> {
         _ => rule.to_vec(),
     };
     let place = check_sentence(&taken).err()?;
+    if wrong == Wrong::BrokenInRewritten {
+        return Some(with_single(&rule[..place]).len());
+    }
     if wrong == Wrong::BrokenAtBracket {
         let inside = rule[..place]
             .iter()
@@ -158,4 +194,37 @@ fn falls(before: u8, letter: u8, wrong: Wrong) -> bool {
         Wrong::SmallBelowCapitals => letter ^ 32 <= before ^ 32,
         _ => letter <= before,
     }
+}
+
+/// The place of 21, if a star follows a star.
+fn repeated_place(rule: &[u8], wrong: Wrong) -> Option<usize> {
+    let mut repeated = (1..rule.len()).filter(|&at| repeats(rule, at, wrong));
+    match wrong {
+        Wrong::RepeatedTaken => None,
+        Wrong::PlaceOfStarBefore => Some(repeated.next()? - 1),
+        Wrong::LastRepeated => repeated.next_back(),
+        Wrong::AtEndAlone => repeated.find(|&at| rule[at..].iter().all(|&byte| byte == b'*')),
+        _ => repeated.next(),
+    }
+}
+
+/// Whether the byte at a place is a star after a star.
+fn repeats(rule: &[u8], at: usize, wrong: Wrong) -> bool {
+    let before = match wrong {
+        Wrong::ThroughParentheses => rule[..at].iter().rfind(|&&byte| byte != b')'),
+        _ => Some(&rule[at - 1]),
+    };
+    let is_pair = (before, rule[at]) == (Some(&b'*'), b'*');
+    let is_complement = rule[at - 1..=at] == *b"!!";
+    match wrong {
+        Wrong::TwoTaken => at > 1 && rule[at - 2..=at] == *b"***",
+        Wrong::RepeatedComplements => is_pair || is_complement,
+        _ => is_pair,
+    }
+}
+
+/// A text in which each run of stars is one star.
+pub fn with_single(text: &[u8]) -> Vec<u8> {
+    let kept = (0..text.len()).filter(|&at| text[at] != b'*' || !text[..at].ends_with(b"*"));
+    kept.map(|at| text[at]).collect()
 }

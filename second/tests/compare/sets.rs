@@ -9,6 +9,16 @@ use second::compare::request::Asked;
 use second::compare::run::Run;
 use second::compare::sets::{shown, Sets};
 
+/// All that read a rule and give what it says.
+pub const RULE_READERS: [Callee; 6] = [
+    Callee::ReadRule,
+    Callee::Judge,
+    Callee::RunJob,
+    Callee::ReadRuleFile,
+    Callee::JudgeRuleFile,
+    Callee::Program,
+];
+
 /// What a rule shows, in all calls that take it plainly.
 fn of_rule(rule: &str, number: u32, place: usize) -> Vec<Sets> {
     let rule = rule.as_bytes().to_vec();
@@ -26,8 +36,13 @@ fn of_rule(rule: &str, number: u32, place: usize) -> Vec<Sets> {
         job: [b"R\t", &rule[..], b"\nE\t0\t[\n"].concat(),
         out: 99,
     };
-    let [read, judged, job] = [read, judged, job].map(|asked| shown(&asked, number, place));
-    assert_eq!((&read, &read), (&judged, &job));
+    let rewriting = Asked::Rewriting {
+        text: rule,
+        out: 99,
+    };
+    let all = [read, judged, job, rewriting].map(|asked| shown(&asked, number, place));
+    let [read, others @ ..] = all;
+    assert!(others.iter().all(|other| *other == read));
     read
 }
 
@@ -94,15 +109,7 @@ fn rules_that_break_in_brackets_are_seen() {
 
 #[test]
 fn what_is_never_shown_is_a_failure() {
-    let callees = [
-        Callee::ReadRule,
-        Callee::Judge,
-        Callee::RunJob,
-        Callee::ReadRuleFile,
-        Callee::JudgeRuleFile,
-        Callee::Program,
-    ];
-    for callee in callees {
+    for callee in RULE_READERS.into_iter().chain([Callee::RewriteRule]) {
         let mut output = Vec::new();
         let run = Run::new(&mut output);
         assert!(!run.finish(&[callee.required()]).unwrap());

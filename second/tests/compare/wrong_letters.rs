@@ -77,7 +77,10 @@ fn small_complements(_: &str, mut call: Call) -> u64 {
 /// How many spans an accepted call should find that the library above does not.
 fn lost_by(call: &Call) -> u64 {
     match call {
-        Call::ReadRule { .. } | Call::ReadDay { .. } | Call::ReadRuleFile { .. } => 0,
+        Call::ReadRule { .. }
+        | Call::ReadDay { .. }
+        | Call::ReadRuleFile { .. }
+        | Call::RewriteRule { .. } => 0,
         Call::Judge { rule, word, .. } => lost(read(rule).unwrap(), word),
         Call::JudgeRuleFile { file, word, .. } => lost(read_last(file).unwrap(), word),
         Call::RunJob { job, .. } => {

@@ -12,12 +12,9 @@ use second::job::{output, split_job};
 use second::rule::{check_sentence, read};
 use second::rule_file;
 
-use crate::check::{answer, borrowed};
+use crate::check::borrowed;
 use crate::rule_verdict::{verdict, Wrong};
-use crate::wrong::found_with;
-
-/// The calls that take a plain rule.
-const PLAIN: [Callee; 3] = [Callee::ReadRule, Callee::Judge, Callee::RunJob];
+use crate::wrong::{check_verdicts, found_with, rules_of, with_verdict, PLAIN};
 
 /// The calls that answer with nodes.
 const READERS: [Callee; 2] = [Callee::ReadRule, Callee::ReadRuleFile];
@@ -28,16 +25,8 @@ const JUDGES: [Callee; 3] = [Callee::Judge, Callee::RunJob, Callee::JudgeRuleFil
 /// The edges with brackets or dots, but for long files.
 fn edges() -> &'static [Request] {
     static EDGES: OnceLock<Vec<Request>> = OnceLock::new();
-    let bytes = |request: &Request| match &request.asked {
-        Asked::Rule { text: bytes, .. }
-        | Asked::Judge { rule: bytes, .. }
-        | Asked::Job { job: bytes, .. }
-        | Asked::RuleFile { file: bytes, .. }
-        | Asked::JudgeFile { file: bytes, .. } => bytes.clone(),
-        Asked::Day { .. } => Vec::new(),
-    };
     let is_about_sets = |request: &Request| {
-        let bytes = bytes(request);
+        let bytes = rules_of(request);
         bytes.len() < 300 && bytes.iter().any(|byte| b"[.".contains(byte))
     };
     EDGES.get_or_init(|| requests().into_iter().filter(is_about_sets).collect())
@@ -48,53 +37,9 @@ fn found(library: &Library) -> Vec<Callee> {
     crate::wrong::found(edges(), library)
 }
 
-/// The plain rule of a call, if it takes one.
-fn plain_rule<'a>(call: &Call<'a>) -> Option<&'a [u8]> {
-    match call {
-        Call::ReadRule { text, .. } => Some(text),
-        Call::Judge { rule, .. } => Some(rule),
-        Call::RunJob { job, .. } => split_job(job).ok().map(|(rule, _)| rule),
-        _ => None,
-    }
-}
-
-/// What a library does with a call that has another verdict on some plain rules.
-fn with_verdict(mut call: Call, wrong: Wrong) -> u64 {
-    let number = reference::run(borrowed(&mut call));
-    let rule = plain_rule(&call).filter(|_| number.is_some());
-    let came = rule.map(|rule| verdict(rule, wrong));
-    match came {
-        Some(came) if Some(came) != rule.map(|rule| verdict(rule, Wrong::Nothing)) => {
-            let own = match call {
-                Call::ReadRule { .. } => Callee::ReadRule.answer_length(),
-                Call::Judge { .. } => Callee::Judge.answer_length(),
-                _ => Callee::RunJob.answer_length(),
-            };
-            let answer = &mut answer(&mut call)[..own];
-            answer.fill(0);
-            (answer[0], answer[1]) = came;
-            came.0
-        }
-        _ => reference::returned(number),
-    }
-}
-
 #[test]
 fn the_verdicts_are_those_of_the_second_program() {
-    for edge in edges() {
-        if let Asked::Rule { text, .. } = &edge.asked {
-            let right = read(text).map_or_else(
-                |refusal| (refusal.number().into(), refusal.place as u64),
-                |_| (0, 0),
-            );
-            assert_eq!(
-                verdict(text, Wrong::Nothing),
-                right,
-                "{}",
-                text.escape_ascii()
-            );
-        }
-    }
+    check_verdicts(edges());
 }
 
 /// The mistakes that change a verdict.

@@ -139,7 +139,7 @@ fn tightness_and_offsets_are_as_document_01_says() {
         ("(!a)b", "4 1 2:a;1:!;4:b;4:."),
         ("!(a*)", "3 1 2:a;3:*;0:!"),
         ("(!a)*", "3 1 2:a;1:!;4:*"),
-        ("!!a**", "5 2 2:a;3:*;4:*;1:!;0:!"),
+        ("!!(a*)*", "5 2 3:a;4:*;6:*;1:!;0:!"),
         ("a*b*", "5 0 0:a;1:*;2:b;3:*;2:."),
         ("(a)*!!b", "6 2 1:a;3:*;6:b;5:!;4:!;4:."),
         ("(a|b)&!c*d", "9 2 1:a;3:b;2:|;7:c;8:*;6:!;9:d;9:.;5:&"),
@@ -281,8 +281,8 @@ fn over_64_nodes_is_5_and_before_6() {
         (text(&[("a", 32), ("*", 1)]), 64, 0),
         (text(&[("(a)", 32)]), 63, 0),
         (text(&[("a|", 31), ("a", 1)]), 63, 0),
-        (text(&[("a", 1), ("*", 62)]), 63, 0),
-        (text(&[("a", 1), ("*", 63)]), 64, 0),
+        (text(&[("(", 61), ("a*", 1), (")*", 61)]), 63, 0),
+        (text(&[("(", 62), ("a*", 1), (")*", 62)]), 64, 0),
         (text(&[("!", 7), ("a", 29)]), 64, 7),
         (text(&[("(", 127), ("a", 1), (")", 127)]), 1, 0),
         (text(&[("(", 79), ("(a)", 32), (")", 79), ("*", 1)]), 64, 0),
@@ -291,10 +291,10 @@ fn over_64_nodes_is_5_and_before_6() {
     ]);
     let texts = [
         text(&[("a", 33)]),
-        text(&[("a", 32), ("*", 2)]),
+        text(&[("(", 1), ("a", 32), ("*)*", 1)]),
         text(&[("(a)", 33)]),
         text(&[("a|", 32), ("a", 1)]),
-        text(&[("a", 1), ("*", 64)]),
+        text(&[("(", 63), ("a*", 1), (")*", 63)]),
         text(&[("!", 7), ("a", 30)]),
         text(&[("!", 8), ("a", 29)]),
         text(&[("!", 8), ("a", 33)]),
@@ -302,7 +302,6 @@ fn over_64_nodes_is_5_and_before_6() {
         text(&[("a&", 40), ("a", 1)]),
         text(&[("a", 255)]),
         text(&[("!", 254), ("a", 1)]),
-        text(&[("a", 1), ("*", 254)]),
         text(&[("a|", 127), ("a", 1)]),
     ];
     check_refused(5, &texts.map(|text| (text, 0)));
@@ -400,7 +399,7 @@ fn sets_are_read_with_the_offset_of_their_first_byte() {
         ("c![ab]", "4 1 0:c;2:ab;1:!;1:."),
         ("[ab][cd][ef]", "5 0 0:ab;4:cd;4:.;8:ef;8:."),
         ("x|[ab]y&[cd]*", "8 1 0:x;2:ab;6:y;6:.;8:cd;12:*;7:&;1:|"),
-        ("!![ab]**", "5 2 2:ab;6:*;7:*;1:!;0:!"),
+        ("!!([ab]*)*", "5 2 3:ab;7:*;9:*;1:!;0:!"),
     ]);
     check_sizes(&[
         (text(&[("[ab]", 32), ("*", 1)]), 64, 0),
@@ -790,9 +789,82 @@ fn a_buffer_shorter_than_n_is_15_after_all_lines() {
 }
 
 #[test]
+fn stars_after_stars_are_21_at_the_first_of_them() {
+    let texts = [
+        ("a**", 2),
+        ("a***", 2),
+        ("(a*)**", 5),
+        ("(a**)*", 3),
+        ("a*b**", 4),
+        ("a**b**", 2),
+        ("!a**", 3),
+        ("!!a**", 4),
+        ("a**|b", 2),
+        ("b&a**", 4),
+        ("0**", 2),
+        (".**", 2),
+        ("[ab]**", 5),
+        ("![AZaz]***.**", 8),
+    ];
+    check_refused(21, &texts.map(|(text, place)| (text.into(), place)));
+    check_refused(
+        21,
+        &[
+            // 5 and 6 come later.
+            (text(&[("a", 1), ("*", 64)]), 2),
+            (text(&[("a", 1), ("*", 70)]), 2),
+            (text(&[("a", 1), ("*", 254)]), 2),
+            (text(&[("a", 33), ("*", 2)]), 34),
+            (text(&[("!", 8), ("a**", 1)]), 10),
+            // 255 bytes, with stars at their very end and inside.
+            (text(&[("(", 126), ("a", 1), (")", 126), ("*", 2)]), 254),
+            (text(&[("(", 126), ("a**", 1), (")", 126)]), 128),
+        ],
+    );
+}
+
+#[test]
+fn refusals_2_3_4_and_20_come_before_21() {
+    let no_sentences = [
+        ("a**|", 4),
+        ("**", 0),
+        ("(**)", 1),
+        ("a**)", 3),
+        ("(a**", 4),
+        ("a**||b", 4),
+        ("!!**", 2),
+        ("[a**]", 2),
+        ("a**[", 4),
+    ];
+    check_refused(4, &no_sentences.map(|(text, place)| (text.into(), place)));
+    let fallen = [
+        ("[ba]**", 2),
+        ("a**[ba]", 5),
+        ("[aa]***|b", 2),
+        ("a**[ab][ba]**", 9),
+    ];
+    check_refused(20, &fallen.map(|(text, place)| (text.into(), place)));
+    let foreign = [("a**_", 3), ("a* *", 2), ("<x>**", 0)];
+    check_refused(3, &foreign.map(|(text, place)| (text.into(), place)));
+    check_refused(2, &[(text(&[("a", 1), ("*", 255)]), 0)]);
+}
+
+#[test]
+fn stars_in_each_other_are_read() {
+    check_readings(&[
+        ("(a*)*", "3 0 1:a;2:*;4:*"),
+        ("((a*)*)*", "4 0 2:a;3:*;5:*;7:*"),
+        ("(((a*)))*", "3 0 3:a;4:*;8:*"),
+        ("a*(b*)*", "6 0 0:a;1:*;3:b;4:*;6:*;2:."),
+        ("0*1*", "5 0 0:0;1:*;2:1;3:*;2:."),
+    ]);
+    check_sizes(&[(text(&[("!", 7), ("(a*)*", 1)]), 10, 7)]);
+}
+
+#[test]
 fn every_number_of_both_readers_occurs() {
     let times = numbers(&edges());
-    for number in (0..=6).chain(11..=15).chain([20]) {
+    for number in (0..=6).chain(11..=15).chain([20, 21]) {
         assert!(times[number] > 0, "no {number}");
     }
     assert_eq!(times[7..=10], [0; 4]);

@@ -182,14 +182,15 @@ fn the_programs_limit_can_be_met() {
     for (rule, m) in [("1", 1), ("1&1", 3), ("(1|1)*", 4)] {
         assert_eq!(full_count(edges, rule.as_bytes(), b""), 2 * m, "{rule}");
     }
-    // All 128 states at all spans, but for the head's entry and the letter's exit.
-    let rule = ["a", &"*".repeat(63)].concat();
-    for (n, program_limit) in [(64, 274_560), (255, 4_210_688)] {
+    // All states at all spans, but for the head's entry and the letter's exit.
+    for (n, stars, program_limit) in [(64, 20, 90_090), (255, 63, 4_210_688)] {
+        let around = stars as usize - 1;
+        let rule = ["(".repeat(around), "a*".into(), ")*".repeat(around)].concat();
         let word = vec![b'a'; n as usize];
         let full = full_count(edges, rule.as_bytes(), &word);
         assert_eq!(
             full,
-            126 * (n + 1) * (n + 2) / 2 + (n + 1) + n * (n + 1) / 2
+            2 * stars * (n + 1) * (n + 2) / 2 + (n + 1) + n * (n + 1) / 2
         );
         let edges = of(edges, rule.as_bytes(), &word);
         assert_eq!(with_limit(&edges, program_limit).1.number, 0);
@@ -602,7 +603,7 @@ fn the_rule_texts_row_comes_first() {
         (b"a|", 4, 2),
         (b")", 4, 0),
         (b"(a", 4, 2),
-        (b"a()b", 4, 2),
+        (b"ba**", 21, 3),
         (&[b'a'; 33], 5, 0),
         (b"!!!!!!!!a", 6, 0),
         (b"x[ba]", 20, 3),

@@ -10,7 +10,7 @@ use crate::judge_edges::{
 use crate::{answer_lines, answered, cases, stream};
 
 /// How many judge calls there are; they come before all else.
-const CALLS: usize = 58;
+const CALLS: usize = 64;
 
 /// The judge calls with their answers, asked for once for all tests.
 fn edges() -> &'static [(Call, Answer)] {
@@ -48,7 +48,7 @@ fn the_stream_is_answered_whole_and_stays_small() {
     assert!(numbers.iter().all(|case| case.header[0] == "numbers"));
     let lines = answer_lines(&stream);
     assert_eq!(lines.len(), cases.len());
-    assert_eq!(lines.len(), 63);
+    assert_eq!(lines.len(), 69);
     let bytes: usize = lines.iter().map(|line| line.len() + 1).sum();
     assert!(bytes <= 60_000, "{bytes} bytes of answers");
 }
@@ -63,7 +63,7 @@ fn every_answer_is_what_the_definitions_ask() {
 #[test]
 fn every_number_of_the_judge_occurs() {
     let numbers: BTreeSet<usize> = edges().iter().map(|(_, answer)| answer.number).collect();
-    assert_eq!(numbers, (0..=10).chain([20]).collect());
+    assert_eq!(numbers, (0..=10).chain([20, 21]).collect());
 }
 
 #[test]
@@ -249,7 +249,7 @@ fn the_traps_of_the_letters_are_walked() {
 }
 
 #[test]
-fn sets_are_the_last_calls() {
+fn sets_come_good_and_bad() {
     check_spans(edges(), b"[abc]", b"adc", &[(0, 1), (2, 3)]);
     check_spans(edges(), b"[Za]", b"aZz", &[(0, 1), (1, 2)]);
     check_spans(edges(), b".", b"aZ", &[(0, 1), (1, 2)]);
@@ -263,13 +263,32 @@ fn sets_are_the_last_calls() {
     ] {
         check_refused(rule, b"", number, place);
     }
-    let rules: Vec<&[u8]> = edges()[50..]
+    let rules: Vec<&[u8]> = edges()[50..58]
         .iter()
         .map(|(call, _)| &call.rule[..])
         .collect();
     let sets = [&b"[abc]"[..], b"[Za]", b".", b"!.*[bc]"];
     let bad = [&b"[ba]"[..], b"[aa]", b"[]", b"[ba]|"];
     assert_eq!(rules, [sets, bad].concat());
+}
+
+#[test]
+fn stars_are_the_last_calls() {
+    check_spans(edges(), b"(a*)*", b"aa", &all_spans(2));
+    // What is not of a alone, and then any number of b.
+    check_spans(edges(), b"!(a*)*b*", b"ab", &[(0, 2), (1, 2)]);
+    for (rule, number, place) in [
+        (&b"a**"[..], 21, 2),
+        (b"(a*)**", 21, 5),
+        (b"a**|", 4, 4),
+        (b"[ba]**", 20, 2),
+    ] {
+        check_refused(rule, b"", number, place);
+    }
+    let rules = edges()[58..].iter().map(|(call, _)| &call.rule[..]);
+    let stars = [&b"(a*)*"[..], b"!(a*)*b*"];
+    let bad = [&b"a**"[..], b"(a*)**", b"a**|", b"[ba]**"];
+    assert!(rules.eq(stars.into_iter().chain(bad)));
 }
 
 #[test]

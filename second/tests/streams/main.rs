@@ -115,8 +115,8 @@ fn answered(stream: &[u8]) -> Vec<(Case, String)> {
 }
 
 /// How often each number stands in the answers, accepted cases under 0.
-fn numbers(answered: &[(Case, String)]) -> [usize; 21] {
-    let mut times = [0; 21];
+fn numbers(answered: &[(Case, String)]) -> [usize; 22] {
+    let mut times = [0; 22];
     for (_, line) in answered {
         times[line.split('\t').nth(1).unwrap().parse::<usize>().unwrap()] += 1;
     }
