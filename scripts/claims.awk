@@ -8,7 +8,7 @@ BEGIN {
 
 function claim(text) {
     name = "claim-" KIND "-" ++claims
-    print "\n" name " : " text "\nunfolding treeOf parse leafAt leading gathered bitOf records scanFrom unorderedFrom isEvent holds hasBit obeying accepts fullCount found block obeys packedRun packed onesOf ones"
+    print "\n" name " : " text "\nunfolding treeOf parse leafAt leading gathered bitOf records scanFrom unorderedFrom doubleFrom isEvent holds hasBit obeying accepts fullCount found block obeys packedRun packed onesOf ones"
     print name " = refl"
 }
 
@@ -54,6 +54,8 @@ KIND == "readings" && $2 == 4 { claim("scanned (bytes \"" $1 "\") ≡ Broken " $
 
 KIND == "readings" && $2 == 20 { claim("unorderedAt (bytes \"" $1 "\") ≡ " $3) }
 
+KIND == "readings" && $2 == 21 { claim("doubleAt (bytes \"" $1 "\") ≡ " $3) }
+
 KIND == "readings" && $2 == 0 {
     tree = "(treeOf (bytes \"" $1 "\"))"
     n = split($6, items, ";")
@@ -62,4 +64,5 @@ KIND == "readings" && $2 == 0 {
     claim("records " tree " ≡ " join_list(items, n))
     claim("scanned (bytes \"" $1 "\") ≡ Complete " $4 " " $5)
     claim("unorderedAt (bytes \"" $1 "\") ≡ " length($1))
+    claim("doubleAt (bytes \"" $1 "\") ≡ " length($1))
 }

@@ -68,7 +68,7 @@ module _ (w : Word) (t : Tree) (short : length w ≤ 255) where
 
   -- no other found, count and text
   module _ {f c : ℕ} {x : List ℕ} (h : Lists w t f c x) where
-    same-spans : h .spans ≡ obeying w t
+    pub same-spans : h .spans ≡ obeying w t
     same-spans =
         order-one (h .spans) (obeying w t) (h .order) (listed-order w t) (λ p. (
           λ m. listed w t (p .0) (p .1) .1 (h .each p .0 m),

@@ -17,7 +17,8 @@ use Rattle.regex.specs.Parse.{parse}
 use Rattle.regex.specs.Scan.{scanFrom}
 use Rattle.regex.specs.TreeOf.{treeOf}
 use Rattle.regex.specs.OrderComputed.{unorderedFrom}
-use Rattle.rule.specs.RuleComputed.{ruleAnswer}
+use Rattle.regex.specs.StarsComputed.{doubleFrom}
+use Rattle.rule.specs.RuleComputed.{sentenceOutcome, ruleAnswer}
 use Rattle.work.specs.Count.{fullCount}
 use Rattle.work.specs.TableComputed.{obeys, block, table, found}
 use Rattle.matcher.specs.MatchAnswer.{values, refusal}
@@ -27,11 +28,11 @@ use Rattle.judge.specs.JudgeComputed.{judgeAnswer}
 -- "`!a` on a passes with limit 7; limit 6 gives 10.": both blocks have the empty spans alone, and one number beyond them stays
 limits : map (λ (limit : ℕ). judgeAnswer (bytes "!a") (bytes "a") limit (replicate 17 5)) (7 ∷ 6 ∷ [])
     ≡ values 0 0 2 7 (1 ∷ 0 ∷ 0 ∷ 0 ∷ 2 ∷ 0 ∷ 0 ∷ 0 ∷ 1 ∷ 0 ∷ 0 ∷ 0 ∷ 2 ∷ 0 ∷ 0 ∷ 0 ∷ 5 ∷ []) ∷ values 10 0 0 6 (replicate 16 0 ++ (5 ∷ [])) ∷ []
-unfolding judgeAnswer matchAnswer fitAnswer ruleAnswer leading isEvent scanFrom treeOf parse leafAt unorderedFrom holds hasBit bitOf fullCount accepts obeys block table found packed packedRun onesOf ones
+unfolding judgeAnswer matchAnswer fitAnswer ruleAnswer sentenceOutcome leading isEvent scanFrom treeOf parse leafAt unorderedFrom doubleFrom holds hasBit bitOf fullCount accepts obeys block table found packed packedRun onesOf ones
 limits = refl
 
 -- 02 a): 8 reads "the wider alphabet"
 beside-letters : map (λ (s : String). judgeAnswer (bytes "A") (bytes s) 9 []) ("Az@" ∷ "Za[" ∷ "aZ`" ∷ "zA{" ∷ [])
     ≡ refusal 8 2 [] ∷ refusal 8 2 [] ∷ refusal 8 2 [] ∷ refusal 8 2 [] ∷ []
-unfolding judgeAnswer matchAnswer fitAnswer ruleAnswer leading isEvent scanFrom treeOf parse leafAt unorderedFrom
+unfolding judgeAnswer matchAnswer fitAnswer ruleAnswer sentenceOutcome leading isEvent scanFrom treeOf parse leafAt unorderedFrom doubleFrom
 beside-letters = refl

@@ -17,6 +17,7 @@ use Rattle.regex.specs.Parse.{parse}
 use Rattle.regex.specs.Scan.{scanFrom}
 use Rattle.regex.specs.TreeOf.{treeOf}
 use Rattle.regex.specs.OrderComputed.{unorderedFrom}
+use Rattle.regex.specs.StarsComputed.{doubleFrom}
 use Rattle.rule_line.specs.LineMeaning.{lineOf}
 use Rattle.replacement.specs.Replaced.{isLower}
 use Rattle.replacement.specs.Pieces.{nameLength, piecesFrom, shapeOf, filled}
@@ -35,11 +36,11 @@ two a b = lineOf (bytes "x") (bytes a) (lineOf (bytes "y") (bytes b) [])
 -- 02 b): "the judge, given a file, judges its last line", here as it judges `!(a)`
 last-line : judgeFileAnswer (two "a" "!<x>") (bytes "a") 7 (replicate 16 5)
     ≡ values 0 0 2 7 (1 ∷ 0 ∷ 0 ∷ 0 ∷ 2 ∷ 0 ∷ 0 ∷ 0 ∷ 1 ∷ 0 ∷ 0 ∷ 0 ∷ 2 ∷ 0 ∷ 0 ∷ 0 ∷ [])
-unfolding judgeFileAnswer lastFrom fileFrom isLine has judged textOf knows nameLength piecesFrom shapeOf filled isLower matchAnswer fitAnswer leading isEvent scanFrom treeOf parse leafAt unorderedFrom holds hasBit bitOf fullCount accepts obeys block table found packed packedRun onesOf ones
+unfolding judgeFileAnswer lastFrom fileFrom isLine has judged textOf knows nameLength piecesFrom shapeOf filled isLower matchAnswer fitAnswer leading isEvent scanFrom treeOf parse leafAt unorderedFrom doubleFrom holds hasBit bitOf fullCount accepts obeys block table found packed packedRun onesOf ones
 last-line = refl
 
 -- "the place of every refusal in it .. is the line"; the file's numbers stand before the word's, of which the place of 8 is the offset
 places : map (λ (s : String). judgeFileAnswer (two "a" s) (bytes "a_") 7 (5 ∷ [])) ("" ∷ "a_" ∷ "<x" ∷ "<y>" ∷ "<x>[ba]" ∷ "<x>" ∷ [])
     ≡ refusal 1 2 (5 ∷ []) ∷ refusal 3 2 (5 ∷ []) ∷ refusal 4 2 (5 ∷ []) ∷ refusal 17 2 (5 ∷ []) ∷ refusal 20 2 (5 ∷ []) ∷ refusal 8 1 (5 ∷ []) ∷ []
-unfolding judgeFileAnswer lastFrom fileFrom isLine has judged textOf knows nameLength piecesFrom shapeOf filled isLower matchAnswer fitAnswer leading isEvent scanFrom treeOf parse leafAt unorderedFrom
+unfolding judgeFileAnswer lastFrom fileFrom isLine has judged textOf knows nameLength piecesFrom shapeOf filled isLower matchAnswer fitAnswer leading isEvent scanFrom treeOf parse leafAt unorderedFrom doubleFrom
 places = refl

@@ -48,9 +48,9 @@ pub data Comes (file : List ℕ) : FileRead → Type 0 where
 
 has-last : {file : List ℕ} {ls : List Line} {text : List ℕ} → Passed file ls text → 1 ≤ length ls → text ≡ [] → Comes file (passed ls)
 has-last start h e = absurd (omega arith)
-has-last {file} (next {ls = ls} {n = n} {u = u} {t = t} p a r o m k) h e =
+has-last {file} (next {ls = ls} {n = n} {u = u} {t = t} p a r o d m k) h e =
     let l : Line = record { name = n; text = u; tree = t } in
-    passes ls l (subst (Passed file (ls ++ l ∷ [])) e (next p a r o m k)) (a .few)
+    passes ls l (subst (Passed file (ls ++ l ∷ [])) e (next p a r o d m k)) (a .few)
 
 pub comes : (file : List ℕ) → Comes file (fileRead file)
 comes file = go (fileRead file) refl (answer-means file)

@@ -9,6 +9,7 @@ pub mod ScanDecides
 pub mod Parses
 pub mod OneReading
 pub mod UnorderedLaws
+pub mod DoubleLaws
 pub mod PlainLaws
 pub mod KindLaws
 mod Edges

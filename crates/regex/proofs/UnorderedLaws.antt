@@ -183,6 +183,16 @@ ordered-is {s} o = go (decLt (unorderedAt s) (length s))
     go (yes h) = absurd (o (unorderedAt s) (unordered-first s h .there))
     go (no h) = omega arith
 
+-- ---- a byte at the front: whether it falls, and what is noted of it
+pub rises-on : (q b : ℕ) (s : List ℕ) → Rising q (b ∷ s) → Rising (noted q b) s
+unfolding FallsAt
+rises-on q b s h i x = h (suc i) x
+
+pub rises-with : (q b : ℕ) (s u : List ℕ) → Rising q (b ∷ s) → Rising (noted q b) u → Rising q (b ∷ u)
+unfolding FallsAt
+rises-with q b s u h g zero x = h 0 x
+rises-with q b s u h g (suc i) x = g i x
+
 -- ---- one turn of the search
 pub unordered-on : (s : List ℕ) (i q : ℕ) → i < length s → falls q (getD s i 0) ≡ false
     → unorderedFrom q (drop i s) ≡ suc (unorderedFrom (noted q (getD s i 0)) (drop (i + 1) s))

@@ -2,6 +2,7 @@
 pub mod Tree
 pub mod Grammar
 pub mod Unordered
+pub mod Stars
 pub mod Plain
 pub mod Lang
 pub mod KindNumber
@@ -13,3 +14,4 @@ pub mod Parse
 pub mod TreeOf
 pub mod Scan
 pub mod OrderComputed
+pub mod StarsComputed

@@ -12,19 +12,10 @@ use Rattle.event.proofs.EventLaws.{reserved-foreign}
 use Rattle.event.proofs.Tests.{and-split}
 use Rattle.regex.specs.Unordered.{Ordered}
 use Rattle.regex.specs.OrderComputed.{noted, falls}
-use Rattle.regex.proofs.UnorderedLaws.{FallsAt, Rising, rising-ordered, ordered-rising}
+use Rattle.regex.proofs.UnorderedLaws.{FallsAt, Rising, rising-ordered, ordered-rising, rises-on, rises-with}
 use Rattle.replacement.specs.Replaced.{isLower, Lowers, Replaced, ends, byte, name}
 
--- ---- a byte at the front: whether it falls, and what is noted of it
-rises-on : (q b : ℕ) (s : List ℕ) → Rising q (b ∷ s) → Rising (noted q b) s
-unfolding FallsAt
-rises-on q b s h i x = h (suc i) x
-
-rises-with : (q b : ℕ) (s u : List ℕ) → Rising q (b ∷ s) → Rising (noted q b) u → Rising q (b ∷ u)
-unfolding FallsAt
-rises-with q b s u h g zero x = h 0 x
-rises-with q b s u h g (suc i) x = g i x
-
+-- ---- signs
 -- a reserved byte that is no `[`: it falls nowhere, and nothing is noted of it
 module _ (c : ℕ) (r : T (isReserved c)) (n : eqb c 91 ≡ false) where
   nothing-noted : (q : ℕ) → noted q c ≡ 0

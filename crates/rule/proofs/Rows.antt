@@ -6,12 +6,13 @@ use mathlib.Core.List.{List}
 use lib.ListN.{length, length-append, length-replicate}
 use Rattle.regex.specs.Tree.{Tree}
 use Rattle.regex.proofs.RecordLaws.{records-length}
+use Rattle.verdict.specs.declared.Verdict.{Verdict}
 use Rattle.verdict.proofs.ByReader.{ByReader, below-judge, above-judge}
 use Rattle.rule.specs.RuleAnswer.{RuleAnswer, refusal, refusalVerdict, acceptance}
-use Rattle.rule.specs.RuleMeaning.{Passed, RuleMeaning, empty-text, long-text, foreign-byte, no-sentence}
-use Rattle.rule.specs.RuleMeaning.{unordered-set, many-nodes, many-specials, accepted}
+use Rattle.rule.specs.RuleMeaning.{Passed, RuleMeaning, unfit, double-star, many-nodes, many-specials, accepted}
 use Rattle.rule.specs.declared.Refusal.{Refusal}
-use Rattle.rule.specs.declared.Refusal.the-variants.{EmptyText, LongText, ForeignByte, NoSentence, UnorderedSet, ManyNodes, ManySpecials}
+use Rattle.rule.specs.declared.Refusal.the-variants.{EmptyText, LongText, ForeignByte, NoSentence, UnorderedSet, DoubleStar, ManyNodes, ManySpecials}
+use Rattle.rule.proofs.Answered.{unfit-is}
 
 pub in-row : (r : Refusal) → ByReader (refusalVerdict r)
 in-row EmptyText = below-judge 1 0 (omega arith) (omega arith)
@@ -19,6 +20,7 @@ in-row LongText = below-judge 2 0 (omega arith) (omega arith)
 in-row (ForeignByte n) = below-judge 3 n (omega arith) (omega arith)
 in-row (NoSentence n) = below-judge 4 n (omega arith) (omega arith)
 in-row (UnorderedSet n) = above-judge 20 n (omega arith)
+in-row (DoubleStar n) = above-judge 21 n (omega arith)
 in-row ManyNodes = below-judge 5 0 (omega arith) (omega arith)
 in-row ManySpecials = below-judge 6 0 (omega arith) (omega arith)
 
@@ -28,13 +30,12 @@ data Row (s : List ℕ) (a : RuleAnswer) : Type 0 where
   passed-as : (t : Tree) → Passed s t → a ≡ acceptance t → Row s a
 
 row : {s : List ℕ} {a : RuleAnswer} → RuleMeaning s a → Row s a
-row (empty-text h) = refused-by EmptyText refl
-row (long-text h) = refused-by LongText refl
-row (foreign-byte {n = n} f h l b) = refused-by (ForeignByte n) refl
-row (no-sentence {n = n} l h g) = refused-by (NoSentence n) refl
-row (unordered-set {n = n} l r f) = refused-by (UnorderedSet n) refl
-row (many-nodes l r o h) = refused-by ManyNodes refl
-row (many-specials l r o h g) = refused-by ManySpecials refl
+row (unfit u) =
+    let x = unfit-is u in
+    refused-by (x .why) (ap (λ (v : Verdict). refusal (v .number) (v .place)) (sym (x .verdict)))
+row (double-star {n = n} f d) = refused-by (DoubleStar n) refl
+row (many-nodes f d h) = refused-by ManyNodes refl
+row (many-specials f d h g) = refused-by ManySpecials refl
 row (accepted {t = t} p) = passed-as t p refl
 
 number-of : {a b : RuleAnswer} → a ≡ b → a .number ≡ b .number

@@ -1,19 +1,19 @@
 -- What the private functions of the recursive reader do, which a buyer needn't read. Assumes nothing.
-use Prim.Native.Nat.{ℕ, _+_, _-_, _*_, _%_, _≤_, min}
+use Prim.Native.Nat.{ℕ, _+_, _*_, _%_, _≤_, min}
 use mathlib.Core.Path.{_≡_}
 use mathlib.Core.List.{List, [], _∷_, _++_}
 use mathlib.Core.Bool.{cond}
 use lib.ListN.{length, set}
 use lib.Dec.{ltb, eqb}
 use Rattle.regex.specs.KindNumber.{kindNumber}
-use Rattle.regex.specs.Tree.{size, records}
+use Rattle.regex.specs.Tree.{size}
 use Rattle.regex.specs.TreeOf.{treeOf}
 use Rattle.regex.specs.Grammar.{Alt, Reads}
 use Rattle.regex.specs.Parse.{Call, alt, altRest, conj, conjRest, seq, seqRest, pre, post, postRest, atom, measure, parse}
 use Rattle.regex.specs.declared.Kind.{Kind}
 use Rattle.regex.specs.declared.Kind.the-variants.{Empty, Epsilon, Letter, Union, Intersection, Concatenation, Complement, Star}
 use Rattle.regex.specs.declared.Node.{Node}
-use Rattle.rule.specs.RuleAnswer.{unused}
+use Rattle.rule.specs.RuleAnswer.{nodesFor}
 use Rattle.rule.specs.declared.levels.Reading.{Reading}
 
 -- the kind that a number stands for
@@ -81,4 +81,4 @@ pub record Readable (s : List ℕ) : Type 0 where
 
 -- the 64 records that are written of it
 abbrev pub nodesRead : List ℕ → List Node
-nodesRead s = records (treeOf s) ++ unused (64 - size (treeOf s))
+nodesRead s = nodesFor (treeOf s)

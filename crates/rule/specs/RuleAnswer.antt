@@ -1,4 +1,4 @@
--- The values of the rule reader's answers, by documents 01 and 02 e). Assumes nothing.
+-- The values of the rule reader's answers, by documents 01, 02 e) and 02 f). Assumes nothing.
 use Prim.Native.Nat.{ℕ, _-_}
 use mathlib.Core.List.{List, _++_}
 use mathlib.Core.Bool.{Bool, _||_}
@@ -45,16 +45,21 @@ values number place m k ns = record { number = number; place = place; found = 0;
 abbrev pub refusal : ℕ → ℕ → RuleAnswer
 refusal number place = values number place 0 0 (unused 64)
 
-abbrev pub acceptance : Tree → RuleAnswer
-acceptance t = values 0 0 (size t) (specials t) (records t ++ unused (64 - size t))
+-- the records of a reading, and those that no node fills
+abbrev pub nodesFor : Tree → List Node
+nodesFor t = records t ++ unused (64 - size t)
 
--- 01, 02 e): number and place of each refusal of the row "Rule text"
+abbrev pub acceptance : Tree → RuleAnswer
+acceptance t = values 0 0 (size t) (specials t) (nodesFor t)
+
+-- 01, 02 e), 02 f): number and place of each refusal of the row "Rule text"
 abbrev pub refusalVerdict : Refusal → Verdict
 refusalVerdict why.EmptyText = verdict.refused 1 0
 refusalVerdict why.LongText = verdict.refused 2 0
 refusalVerdict (why.ForeignByte n) = verdict.refused 3 n
 refusalVerdict (why.NoSentence n) = verdict.refused 4 n
 refusalVerdict (why.UnorderedSet n) = verdict.refused 20 n
+refusalVerdict (why.DoubleStar n) = verdict.refused 21 n
 refusalVerdict why.ManyNodes = verdict.refused 5 0
 refusalVerdict why.ManySpecials = verdict.refused 6 0
 

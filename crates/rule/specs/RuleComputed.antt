@@ -6,39 +6,66 @@ use mathlib.Core.Bool.{cond}
 use lib.Dec.{eqb, ltb}
 use lib.ListN.{length}
 use Rattle.event.specs.Leading.{leading}
-use Rattle.regex.specs.Tree.{Tree, size, specials}
 use Rattle.regex.specs.TreeOf.{treeOf}
 use Rattle.regex.specs.Scan.{scanned}
 use Rattle.regex.specs.OrderComputed.{unorderedAt}
+use Rattle.regex.specs.StarsComputed.{doubleAt}
+use Rattle.regex.specs.declared.Node.{Node}
 use Rattle.regex.specs.declared.ScanResult.{ScanResult}
 use Rattle.regex.specs.declared.ScanResult.the-variants.{Complete, Broken}
-use Rattle.rule.specs.RuleAnswer.{RuleAnswer, isRuleByte, unused, refusalVerdict, told, acceptance}
-use Rattle.rule.specs.declared.Refusal.{Refusal}
-use Rattle.rule.specs.declared.Refusal.the-variants.{EmptyText, LongText, ForeignByte, NoSentence, UnorderedSet, ManyNodes, ManySpecials}
+use Rattle.rule.specs.RuleAnswer.{RuleAnswer, isRuleByte, unused, nodesFor, ruleValues}
+use Rattle.rule.specs.declared.Outcome.{Outcome}
+use Rattle.rule.specs.declared.Outcome.the-variants.{Accepted, Refused}
+use Rattle.rule.specs.declared.Refusal.the-variants.{EmptyText, LongText, ForeignByte, NoSentence, UnorderedSet, DoubleStar, ManyNodes, ManySpecials}
 
-abbrev pub refusedBy : Refusal → RuleAnswer
-refusedBy r = told (refusalVerdict r) 0 0 (unused 64)
-
+-- ---- the checks 1 to 4 and 20
 -- the offset of the first byte outside the list; the length where there is none
 abbrev pub foreignAt : List ℕ → ℕ
 foreignAt s = leading isRuleByte s
 
--- 01, numbers 5 and 6: "m over 64", "k over 7"
-abbrev pub sized : Tree → RuleAnswer
-sized t = cond (ltb 64 (size t)) (refusedBy ManyNodes) (cond (ltb 7 (specials t)) (refusedBy ManySpecials) (acceptance t))
-
 -- 02 e), number 20: "a letter inside brackets that is not above the one before it"
-abbrev pub ordered : List ℕ → Tree → RuleAnswer
-ordered s t = cond (ltb (unorderedAt s) (length s)) (refusedBy (UnorderedSet (unorderedAt s))) (sized t)
+abbrev pub ordered : List ℕ → ℕ → ℕ → Outcome
+ordered s m k = cond (ltb (unorderedAt s) (length s)) (Refused (UnorderedSet (unorderedAt s))) (Accepted m k)
 
 -- 01, number 4: "not a sentence"
-abbrev pub afterScan : List ℕ → ScanResult → RuleAnswer
-afterScan s (Complete m k) = ordered s (treeOf s)
-afterScan s (Broken n) = refusedBy (NoSentence n)
+abbrev pub afterScan : List ℕ → ScanResult → Outcome
+afterScan s (Complete m k) = ordered s m k
+afterScan s (Broken n) = Refused (NoSentence n)
 
 -- 01, numbers 1, 2 and 3: "empty", "over 255 bytes", "a byte outside the list"
+unfoldable pub sentenceOutcome : List ℕ → Outcome
+sentenceOutcome s =
+    cond (eqb (length s) 0) (Refused EmptyText)
+    (cond (ltb 255 (length s)) (Refused LongText)
+    (cond (ltb (foreignAt s) (length s)) (Refused (ForeignByte (foreignAt s))) (afterScan s (scanned s))))
+
+-- ---- and the others, of a text that those have accepted
+-- 02 f), number 21: "a star directly after a star"
+abbrev pub single : List ℕ → Outcome → Outcome
+single s (Accepted m k) = cond (ltb (doubleAt s) (length s)) (Refused (DoubleStar (doubleAt s))) (Accepted m k)
+single s (Refused r) = Refused r
+
+-- 01, numbers 5 and 6: "m over 64", "k over 7"
+abbrev pub sizeOutcome : ℕ → ℕ → Outcome
+sizeOutcome m k = cond (ltb 64 m) (Refused ManyNodes) (cond (ltb 7 k) (Refused ManySpecials) (Accepted m k))
+
+abbrev pub sized : Outcome → Outcome
+sized (Accepted m k) = sizeOutcome m k
+sized (Refused r) = Refused r
+
+-- ---- all of them
+-- 02 f): "all rule text checks but 21"
+abbrev pub storedOutcome : List ℕ → Outcome
+storedOutcome s = sized (sentenceOutcome s)
+
+-- "21, .. directly after 20"
+abbrev pub ruleOutcome : List ℕ → Outcome
+ruleOutcome s = sized (single s (sentenceOutcome s))
+
+-- the records of a text with this outcome
+abbrev pub nodesWith : List ℕ → Outcome → List Node
+nodesWith s (Accepted m k) = nodesFor (treeOf s)
+nodesWith s (Refused r) = unused 64
+
 unfoldable pub ruleAnswer : List ℕ → RuleAnswer
-ruleAnswer s =
-    cond (eqb (length s) 0) (refusedBy EmptyText)
-    (cond (ltb 255 (length s)) (refusedBy LongText)
-    (cond (ltb (foreignAt s) (length s)) (refusedBy (ForeignByte (foreignAt s))) (afterScan s (scanned s))))
+ruleAnswer s = ruleValues (ruleOutcome s) (nodesWith s (ruleOutcome s))

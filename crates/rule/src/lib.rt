@@ -5,20 +5,16 @@ pub mod levels;
 pub mod order;
 mod records;
 pub mod scan;
+pub mod stars;
 
 use regex::Kind;
 use regex::Node;
 use regex::ScanResult;
 use verdict::Verdict;
 ghost use mathlib.Core.Path.{_≡_};
-ghost use Prim.Native.Nat.{_≤_};
-ghost use lib.ListN.{length};
-ghost use Rattle.regex.specs.Scan.{scanned};
-ghost use Rattle.regex.specs.TreeOf.{treeOf};
-ghost use Rattle.regex.specs.declared.ScanResult.the-variants.{Complete};
-ghost use Rattle.rule.specs.declared.Outcome.the-variants.{Refused};
+ghost use Rattle.rule.specs.declared.Outcome.the-variants.{Accepted, Refused};
 ghost use Rattle.rule.specs.RuleAnswer.{ruleValues, refusalVerdict, outcomeVerdict, nodeCount, specialCount, unused};
-ghost use Rattle.rule.specs.RuleComputed.{ruleAnswer, ordered};
+ghost use Rattle.rule.specs.RuleComputed.{ordered, sentenceOutcome, sizeOutcome, storedOutcome, ruleAnswer};
 ghost use Rattle.rule.specs.RuleMeaning.{RuleMeaning};
 
 // The most that a rule may have.
@@ -35,6 +31,7 @@ pub enum Refusal {
     ForeignByte(usize),
     NoSentence(usize),
     UnorderedSet(usize),
+    DoubleStar(usize),
     ManyNodes,
     ManySpecials,
 }
@@ -56,40 +53,82 @@ pub fn read(text: &[u8]) -> Answer
     ensures value { λ r. ⌜ ruleValues (r .outcome) (r .nodes) ≡ ruleAnswer (now (text .entry)) ⌝ }
     ensures meaning { λ r. ⌜ RuleMeaning (now (text .entry)) (ruleValues (r .outcome) (r .nodes)) ⌝ }
 {
-    if text.len() == 0 {
-        return refused(Refusal::EmptyText);
-    }
-    if MOST_BYTES < text.len() {
-        return refused(Refusal::LongText);
-    }
-    let foreign = bytes::find_foreign(text);
-    if foreign < text.len() {
-        return refused(Refusal::ForeignByte(foreign));
-    }
-    match scan::scan(text) {
-        ScanResult::Broken(place) => refused(Refusal::NoSentence(place)),
-        ScanResult::Complete(m, k) => read_sentence(text, m, k),
+    match check_sentence(text) {
+        Outcome::Refused(refusal) => refused(refusal),
+        Outcome::Accepted(m, k) => read_sentence(text, m, k),
     }
 }
 
-// A sentence of m nodes, k of them special: refused where a set is out of order or there are too many, else read.
-fn read_sentence(text: &[u8], m: usize, k: usize) -> Answer
-    requires { ⌜ (length (now text) ≤ 255) × (scanned (now text) ≡ Complete m k) ⌝ }
-    ensures { λ r. ⌜ ruleValues (r .outcome) (r .nodes) ≡ ordered (now (text .entry)) (treeOf (now (text .entry))) ⌝ }
+// Whether a text of the store is a rule: as the reader, but that a star may stand directly after a star.
+pub fn check_stored(text: &[u8]) -> Outcome
+    ensures { λ r. ⌜ r ≡ storedOutcome (now (text .entry)) ⌝ }
+{
+    match check_sentence(text) {
+        Outcome::Refused(refusal) => Outcome::Refused(refusal),
+        Outcome::Accepted(m, k) => check_size(m, k),
+    }
+}
+
+// Whether a text is a sentence whose sets are in order, and how many nodes and special nodes it has.
+fn check_sentence(text: &[u8]) -> Outcome
+    ensures { λ r. ⌜ r ≡ sentenceOutcome (now (text .entry)) ⌝ }
+{
+    if text.len() == 0 {
+        return Outcome::Refused(Refusal::EmptyText);
+    }
+    if MOST_BYTES < text.len() {
+        return Outcome::Refused(Refusal::LongText);
+    }
+    let foreign = bytes::find_foreign(text);
+    if foreign < text.len() {
+        return Outcome::Refused(Refusal::ForeignByte(foreign));
+    }
+    match scan::scan(text) {
+        ScanResult::Broken(place) => Outcome::Refused(Refusal::NoSentence(place)),
+        ScanResult::Complete(m, k) => check_order(text, m, k),
+    }
+}
+
+// A sentence of m nodes, k of them special: whether its sets are in order.
+fn check_order(text: &[u8], m: usize, k: usize) -> Outcome
+    ensures { λ r. ⌜ r ≡ ordered (now (text .entry)) m k ⌝ }
 {
     let unordered = order::find_unordered(text);
     if unordered < text.len() {
-        return refused(Refusal::UnorderedSet(unordered));
+        return Outcome::Refused(Refusal::UnorderedSet(unordered));
     }
+    Outcome::Accepted(m, k)
+}
+
+// Whether a rule may have m nodes, k of them special.
+fn check_size(m: usize, k: usize) -> Outcome
+    ensures { λ r. ⌜ r ≡ sizeOutcome m k ⌝ }
+{
     if MOST_NODES < m {
-        return refused(Refusal::ManyNodes);
+        return Outcome::Refused(Refusal::ManyNodes);
     }
     if MOST_SPECIALS < k {
-        return refused(Refusal::ManySpecials);
+        return Outcome::Refused(Refusal::ManySpecials);
     }
-    Answer {
-        outcome: Outcome::Accepted(m, k),
-        nodes: levels::read_text(text),
+    Outcome::Accepted(m, k)
+}
+
+// A sentence of m nodes, k of them special, whose sets are in order: refused where a star stands directly after a star or there are too
+// many nodes, else read.
+fn read_sentence(text: &[u8], m: usize, k: usize) -> Answer
+    requires { ⌜ sentenceOutcome (now text) ≡ Accepted m k ⌝ }
+    ensures { λ r. ⌜ ruleValues (r .outcome) (r .nodes) ≡ ruleAnswer (now (text .entry)) ⌝ }
+{
+    let double = stars::find_double(text);
+    if double < text.len() {
+        return refused(Refusal::DoubleStar(double));
+    }
+    match check_size(m, k) {
+        Outcome::Refused(excess) => refused(excess),
+        Outcome::Accepted(m, k) => Answer {
+            outcome: Outcome::Accepted(m, k),
+            nodes: levels::read_text(text),
+        },
     }
 }
 
@@ -117,6 +156,7 @@ pub fn refusal_verdict(refusal: Refusal) -> Verdict
         Refusal::ForeignByte(place) => verdict::refusal(3, place as u64),
         Refusal::NoSentence(place) => verdict::refusal(4, place as u64),
         Refusal::UnorderedSet(place) => verdict::refusal(20, place as u64),
+        Refusal::DoubleStar(place) => verdict::refusal(21, place as u64),
         Refusal::ManyNodes => verdict::refusal(5, 0),
         Refusal::ManySpecials => verdict::refusal(6, 0),
     }

@@ -15,48 +15,57 @@ use Rattle.regex.specs.Scan.{isSentence}
 use Rattle.regex.specs.TreeOf.{treeOf}
 use Rattle.regex.specs.Unordered.{Ordered}
 use Rattle.regex.specs.OrderComputed.{unorderedAt}
+use Rattle.regex.specs.Stars.{NoDouble}
+use Rattle.regex.specs.StarsComputed.{doubleAt}
 use Rattle.regex.proofs.OneReading.{sentence-reads}
 use Rattle.regex.proofs.UnorderedLaws.{unordered-first, ordered-all}
+use Rattle.regex.proofs.DoubleLaws.{first-double, no-double}
 use Rattle.rule.specs.RuleMeaning.{FitsLength}
 use Rattle.replacement.specs.Pieces.{pieces, shape}
 use Rattle.replacement.proofs.PieceLaws.{replaced-by-pieces}
 use Rattle.replacement.proofs.ShapeLaws.{shape-tells, is-sentence, sentence-is, shape-plain, formed-shape, shape-formed}
 use Rattle.rule_line.specs.Lines.{Line}
 use Rattle.rule_line.specs.LineMeaning.{Begins, StandsFor, HasName, AtRule, isWritten, LegalText, ReadsAs}
-use Rattle.rule_line.specs.LineComputed.{has, textOf, knows, isLine, nameOf, bodyOf, ruleOf, Judged, bad, good, sized, ordered, replacedBy, judged}
+use Rattle.rule_line.specs.LineComputed.{has, textOf, knows, isLine, nameOf, bodyOf, ruleOf, Judged, bad, good, sized, ordered, single, replacedBy, judged}
 use Rattle.rule_line.specs.Keeping.{Sound}
 use Rattle.rule_line.proofs.LineNames.{unlike, has-name, has-stands, stands-has, lacks, stands-sentence, knows-all, sound-none, sound-more}
 use Rattle.rule_line.proofs.LineLaws.{line-found, line-split}
 use Rattle.rule_line.proofs.UsesLaws.{Unknown, unknown-used}
-use Rattle.rule_line.proofs.JudgedLaws.{legal, judged-empty, judged-long, judged-foreign, judged-broken, judged-unknown, judged-unordered, judged-reads, sized-good}
+use Rattle.rule_line.proofs.JudgedLaws.{legal, judged-empty, judged-long, judged-foreign, judged-broken, judged-unknown, judged-unordered, judged-double, judged-reads, sized-good}
 use Rattle.rule_file.specs.FileAnswer.{FileAnswer, refusal, acceptance}
 use Rattle.rule_file.specs.FileMeaning.{Passed, start, next, at, FileMeaning}
 use Rattle.rule_file.specs.FileMeaning.{many-lines, empty-file, other-form, name-taken, empty-text, long-text, foreign-byte, no-sentence}
-use Rattle.rule_file.specs.FileMeaning.{unknown-name, unordered-set, many-nodes, many-specials, accepted}
+use Rattle.rule_file.specs.FileMeaning.{unknown-name, unordered-set, double-star, many-nodes, many-specials, accepted}
 use Rattle.rule_file.specs.FileComputed.{onward, FileRead, refused, passed, fileFrom, fileRead, answered, fileAnswer}
 
 pub passed-sound : {file : List ℕ} {ls : List Line} {text : List ℕ} → Passed file ls text → Sound ls
 passed-sound start = sound-none
-passed-sound (next {n = n} {u = u} {t = t} p a r o h g) =
+passed-sound (next {n = n} {u = u} {t = t} p a r o d h g) =
     sound-more (record { name = n; text = u; tree = t }) (passed-sound p) (a .free) (r .reads)
 
 -- ---- the answer means what it says: the rule of a line
 abbrev Says : List ℕ → List Line → List ℕ → Judged → Type 0
 Says file ls s (bad k) = FileMeaning file (refusal k (at ls))
-Says file ls s (good u t) = ReadsAs ls s u t × Ordered s × (size t ≤ 64) × (specials t ≤ 7)
+Says file ls s (good u t) = ReadsAs ls s u t × Ordered s × NoDouble s × (size t ≤ 64) × (specials t ≤ 7)
 
 module _ (file : List ℕ) (ls : List Line) (text n s more : List ℕ) (p : Passed file ls text) (a : AtRule ls text n s more) where
-  sized-says : (u : List ℕ) (t : Tree) → ReadsAs ls s u t → Ordered s → Says file ls s (sized u t)
-  sized-says u t r o =
+  sized-says : (u : List ℕ) (t : Tree) → ReadsAs ls s u t → Ordered s → NoDouble s → Says file ls s (sized u t)
+  sized-says u t r o d =
       let Q = Says file ls s in
-      choose Q (ltb 64 (size t)) (λ e. many-nodes p a r o (ltb-true _ _ e))
-      (λ e. choose Q (ltb 7 (specials t)) (λ f. many-specials p a r o (ltb-false _ _ e) (ltb-true _ _ f))
-      (λ f. (r, o, ltb-false _ _ e, ltb-false _ _ f)))
+      choose Q (ltb 64 (size t)) (λ e. many-nodes p a r o d (ltb-true _ _ e))
+      (λ e. choose Q (ltb 7 (specials t)) (λ f. many-specials p a r o d (ltb-false _ _ e) (ltb-true _ _ f))
+      (λ f. (r, o, d, ltb-false _ _ e, ltb-false _ _ f)))
 
-  ordered-says : (u : List ℕ) (t : Tree) → ReadsAs ls s u t → Says file ls s (ordered s (sized u t))
+  single-says : (u : List ℕ) (t : Tree) → ReadsAs ls s u t → Ordered s → Says file ls s (single s (sized u t))
+  single-says u t r o =
+      choose (Says file ls s) (ltb (doubleAt s) (length s))
+      (λ e. let d = first-double s (ltb-true _ _ e) in double-star (d .before) p a r o (d .double))
+      (λ e. sized-says u t r o (no-double s (ltb-false _ _ e)))
+
+  ordered-says : (u : List ℕ) (t : Tree) → ReadsAs ls s u t → Says file ls s (ordered s (single s (sized u t)))
   ordered-says u t r =
       choose (Says file ls s) (ltb (unorderedAt s) (length s)) (λ e. unordered-set p a r (unordered-first s (ltb-true _ _ e) .there))
-      (λ e. sized-says u t r (ordered-all s (ltb-false _ _ e)))
+      (λ e. single-says u t r (ordered-all s (ltb-false _ _ e)))
 
   reads-as : LegalText s → isSentence (shape s) ≡ true → knows ls (pieces s) ≡ true → ReadsAs ls s (replacedBy ls s) (treeOf (replacedBy ls s))
   reads-as l e k =
@@ -95,7 +104,7 @@ module _ (file : List ℕ) (ls : List Line) (text n s more : List ℕ) (p : Pass
 -- ---- the lines
 none-passed : {file : List ℕ} {ls : List Line} {text : List ℕ} → Passed file ls text → length ls ≡ 0 → text ≡ file
 none-passed start e = refl
-none-passed (next {ls = ls} {n = n} {u = u} {t = t} p a r o h g) e =
+none-passed (next {ls = ls} {n = n} {u = u} {t = t} p a r o d h g) e =
     absurd (omega (arith, length-append ls (record { name = n; text = u; tree = t } ∷ [])))
 
 empty-is : (s : List ℕ) → length s ≡ 0 → s ≡ []
@@ -112,7 +121,7 @@ module _ (file : List ℕ) where
   go-on f ih ls text n s more e p a (bad k) x = x
   go-on f ih ls text n s more e p a (good u t) x =
       let l : Line = record { name = n; text = u; tree = t } in
-      ih (ls ++ l ∷ []) more (omega (arith, length-append ls (l ∷ []))) (next p a (x .0) (x .1) (x .2) (x .3))
+      ih (ls ++ l ∷ []) more (omega (arith, length-append ls (l ∷ []))) (next p a (x .0) (x .1) (x .2) (x .3) (x .4))
 
   file-means : (f : ℕ) (ls : List Line) (text : List ℕ) → f + length ls ≡ 16 → Passed file ls text → FileMeaning file (answered (fileFrom f ls text))
   unfolding fileFrom
@@ -166,9 +175,9 @@ module _ (f : ℕ) (ls : List Line) (text : List ℕ) where
 -- what the answer is from the lines that have passed
 passed-from : {file : List ℕ} {ls : List Line} {text : List ℕ} → Passed file ls text → (f : ℕ) → f + length ls ≡ 16 → fileFrom f ls text ≡ fileRead file
 passed-from {file} start f e = let z : f ≡ 16 = omega arith in ap (λ (n : ℕ). fileFrom n [] file) z
-passed-from (next {ls = ls} {text = text} {n = n} {s = s} {u = u} {t = t} p a r o h g) f e =
+passed-from (next {ls = ls} {text = text} {n = n} {s = s} {u = u} {t = t} p a r o d h g) f e =
     let l : Line = record { name = n; text = u; tree = t } in
-    sym (at-rule f ls text a (good u t) (judged-reads ls s (passed-sound p) r o ∙ sized-good u t h g))
+    sym (at-rule f ls text a (good u t) (judged-reads ls s (passed-sound p) r o d ∙ sized-good u t h g))
     ∙ passed-from p (suc f) (omega (arith, length-append ls (l ∷ [])))
 
 rule-refused : {file : List ℕ} {ls : List Line} {text n s more : List ℕ} → Passed file ls text → AtRule ls text n s more → (k : ℕ) → judged ls s ≡ bad k
@@ -184,7 +193,7 @@ finished (suc f) ls h = let n : length ls ≡ 0 → ⊥ = λ e. omega arith in r
 
 pub passed-few : {file : List ℕ} {ls : List Line} {text : List ℕ} → Passed file ls text → length ls ≤ 16
 passed-few start = omega arith
-passed-few (next {ls = ls} {n = n} {u = u} {t = t} p a r o h g) =
+passed-few (next {ls = ls} {n = n} {u = u} {t = t} p a r o d h g) =
     omega (arith, a .few, length-append ls (record { name = n; text = u; tree = t } ∷ []))
 
 -- the lines that a file passes with are those that are computed
@@ -209,8 +218,9 @@ answer-is (foreign-byte {ls = ls} {s = s} p a f h e) = rule-refused p a 3 (judge
 answer-is (no-sentence {ls = ls} {s = s} p a l h) = rule-refused p a 4 (judged-broken ls s l h)
 answer-is (unknown-name {ls = ls} {s = s} p a l f u h) = rule-refused p a 17 (judged-unknown ls s l f u h)
 answer-is (unordered-set {ls = ls} {s = s} p a r x) = rule-refused p a 20 (judged-unordered ls s (passed-sound p) r x)
-answer-is (many-nodes {ls = ls} {s = s} {t = t} p a r o h) =
-    rule-refused p a 5 (judged-reads ls s (passed-sound p) r o ∙ rw (lt-ltb 64 (size t) h))
-answer-is (many-specials {ls = ls} {s = s} {t = t} p a r o h g) =
-    rule-refused p a 6 (judged-reads ls s (passed-sound p) r o ∙ rw (le-ltb 64 (size t) h, lt-ltb 7 (specials t) g))
+answer-is (double-star {ls = ls} {s = s} i p a r o x) = rule-refused p a 21 (judged-double ls s i (passed-sound p) r o x)
+answer-is (many-nodes {ls = ls} {s = s} {t = t} p a r o d h) =
+    rule-refused p a 5 (judged-reads ls s (passed-sound p) r o d ∙ rw (lt-ltb 64 (size t) h))
+answer-is (many-specials {ls = ls} {s = s} {t = t} p a r o d h g) =
+    rule-refused p a 6 (judged-reads ls s (passed-sound p) r o d ∙ rw (le-ltb 64 (size t) h, lt-ltb 7 (specials t) g))
 answer-is (accepted p h) = ap answered (sym (passed-is p h))

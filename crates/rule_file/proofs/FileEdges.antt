@@ -15,6 +15,7 @@ use Rattle.regex.specs.Parse.{parse}
 use Rattle.regex.specs.Scan.{scanFrom}
 use Rattle.regex.specs.TreeOf.{treeOf}
 use Rattle.regex.specs.OrderComputed.{unorderedFrom}
+use Rattle.regex.specs.StarsComputed.{doubleFrom}
 use Rattle.regex.specs.declared.Node.{Node}
 use Rattle.replacement.specs.Replaced.{isLower}
 use Rattle.replacement.specs.Pieces.{nameLength, piecesFrom, shapeOf, filled}
@@ -61,6 +62,10 @@ cases =
     ∷ (two "[ab]" "<x>.", 0, 0, (1, 0) ∷ (3, 0) ∷ []) ∷ (two "[ab]" "<x>[ba]", 20, 2, []) ∷ (two "[ba]" "<x>", 20, 1, [])
     ∷ (two "a" "[<x>]", 4, 2, []) ∷ (two "a" "[ba]|", 4, 2, []) ∷ (two "a" "[ba]<y>", 17, 2, [])
     ∷ (line "x" "aaaaaaaa" ++ line "y" "<x><x><x><x>" ++ line "z" "<y><y>[aa]", 20, 3, [])
+    -- 21, after 17 and 20 and before 5 and 6, in the text as it is written
+    ∷ (two "a*" "<x>*", 0, 0, (2, 0) ∷ (3, 0) ∷ []) ∷ (two "a*" "<x>**", 21, 2, []) ∷ (two "a**" "b", 21, 1, []) ∷ (two "a" "<x>**|", 4, 2, [])
+    ∷ (two "a" "b**<y>", 17, 2, []) ∷ (two "a" "b**[ba]", 20, 2, []) ∷ (two "!!!!a" "!!!!<x>**", 21, 2, [])
+    ∷ (line "x" "aaaaaaaa" ++ line "y" "<x><x><x><x>" ++ line "z" "<y><y>**", 21, 3, [])
     -- 6, of the replaced text
     ∷ (two "!!!!a" "!!!!<x>", 6, 2, []) ∷ (two "!!!!a" "!!!<x>", 0, 0, (5, 4) ∷ (8, 7) ∷ [])
     -- 19: one byte of a 17th line
@@ -70,7 +75,7 @@ worked : Case → Case
 worked c = let a = fileAnswer (c .0) in (c .0, a .number, a .place, map (λ (l : LineNodes). (l .m, l .k)) (take (a .r) (a .lines)))
 
 edges : map worked cases ≡ cases
-unfolding fileFrom judged isLine has textOf knows nameLength piecesFrom shapeOf filled isLower leading isEvent scanFrom treeOf parse leafAt unorderedFrom cases worked line
+unfolding fileFrom judged isLine has textOf knows nameLength piecesFrom shapeOf filled isLower leading isEvent scanFrom treeOf parse leafAt unorderedFrom doubleFrom cases worked line
 edges = refl
 
 -- the records, as offset and kind number
@@ -83,10 +88,10 @@ set i = 9223372036854775808 + 2 ^ i
 
 first-file : map told (take 2 (fileAnswer (two "a|b" "<x>c") .lines))
     ≡ ((0, set 26) ∷ (2, set 27) ∷ (1, 2) ∷ []) ∷ ((1, set 26) ∷ (3, set 27) ∷ (2, 2) ∷ (5, set 28) ∷ (5, 4) ∷ []) ∷ []
-unfolding fileFrom judged isLine has textOf knows nameLength piecesFrom shapeOf filled isLower leading isEvent scanFrom treeOf parse leafAt unorderedFrom records line told set gathered bitOf
+unfolding fileFrom judged isLine has textOf knows nameLength piecesFrom shapeOf filled isLower leading isEvent scanFrom treeOf parse leafAt unorderedFrom doubleFrom records line told set gathered bitOf
 first-file = refl
 
 second-file : map told (take 2 (fileAnswer (two "a" "!<x>&<x><x>*") .lines))
     ≡ ((0, set 26) ∷ []) ∷ ((2, set 26) ∷ (0, 5) ∷ (6, set 26) ∷ (9, set 26) ∷ (11, 6) ∷ (8, 4) ∷ (4, 3) ∷ []) ∷ []
-unfolding fileFrom judged isLine has textOf knows nameLength piecesFrom shapeOf filled isLower leading isEvent scanFrom treeOf parse leafAt unorderedFrom records line told set gathered bitOf
+unfolding fileFrom judged isLine has textOf knows nameLength piecesFrom shapeOf filled isLower leading isEvent scanFrom treeOf parse leafAt unorderedFrom doubleFrom records line told set gathered bitOf
 second-file = refl

@@ -16,10 +16,10 @@ use Rattle.rule_line.specs.Coding.{lineAt}
 use Rattle.rule_line.specs.declared.LineNodes.{LineNodes}
 use Rattle.rule_line.specs.declared.Refusal.{Refusal}
 use Rattle.rule_line.specs.declared.Refusal.the-variants.{ManyLines, OtherForm, TakenName, EmptyText, LongText, ForeignByte, NoSentence, UnknownName}
-use Rattle.rule_line.specs.declared.Refusal.the-variants.{UnorderedSet, ManyNodes, ManySpecials}
+use Rattle.rule_line.specs.declared.Refusal.the-variants.{UnorderedSet, DoubleStar, ManyNodes, ManySpecials}
 use Rattle.rule_file.specs.FileAnswer.{FileAnswer, refusal, acceptance, refusalVerdict}
 use Rattle.rule_file.specs.FileMeaning.{Passed, start, next, at, FileMeaning, many-lines, empty-file, other-form, name-taken, empty-text}
-use Rattle.rule_file.specs.FileMeaning.{long-text, foreign-byte, no-sentence, unknown-name, unordered-set, many-nodes, many-specials, accepted}
+use Rattle.rule_file.specs.FileMeaning.{long-text, foreign-byte, no-sentence, unknown-name, unordered-set, double-star, many-nodes, many-specials, accepted}
 use Rattle.rule_file.proofs.FileAnswered.{passed-few}
 
 -- ---- the file's refusals
@@ -33,6 +33,7 @@ in-file ForeignByte line = below-judge 3 line (omega arith) (omega arith)
 in-file NoSentence line = below-judge 4 line (omega arith) (omega arith)
 in-file UnknownName line = above-judge 17 line (omega arith)
 in-file UnorderedSet line = above-judge 20 line (omega arith)
+in-file DoubleStar line = above-judge 21 line (omega arith)
 in-file ManyNodes line = below-judge 5 line (omega arith) (omega arith)
 in-file ManySpecials line = below-judge 6 line (omega arith) (omega arith)
 
@@ -52,8 +53,9 @@ row (foreign-byte {ls = ls} p a f h e) = refused-by ForeignByte (at ls) refl
 row (no-sentence {ls = ls} p a l h) = refused-by NoSentence (at ls) refl
 row (unknown-name {ls = ls} p a l f u h) = refused-by UnknownName (at ls) refl
 row (unordered-set {ls = ls} p a r x) = refused-by UnorderedSet (at ls) refl
-row (many-nodes {ls = ls} p a r o h) = refused-by ManyNodes (at ls) refl
-row (many-specials {ls = ls} p a r o h g) = refused-by ManySpecials (at ls) refl
+row (double-star {ls = ls} i p a r o x) = refused-by DoubleStar (at ls) refl
+row (many-nodes {ls = ls} p a r o d h) = refused-by ManyNodes (at ls) refl
+row (many-specials {ls = ls} p a r o d h g) = refused-by ManySpecials (at ls) refl
 row (accepted {ls = ls} p h) = passed-as ls p h refl
 
 pub refused-file : {file : List ℕ} {n line : ℕ} → FileMeaning file (refusal n line) → ByReader (verdict.refused n line)
@@ -70,7 +72,7 @@ refused-file {file} {n} {line} m = go (row m)
 pub line-fits : {file : List ℕ} {ls : List Line} {text : List ℕ} → Passed file ls text → (l : Line) → List·Memᴰ l ls
     → (size (l .tree) ≤ 64) × (specials (l .tree) ≤ 7)
 line-fits start l h = absurd (List·Memᴰ·not-nil h)
-line-fits (next {ls = ls} {n = n} {u = u} {t = t} p a r o m k) l h =
+line-fits (next {ls = ls} {n = n} {u = u} {t = t} p a r o d m k) l h =
     ⊎-elim (λ x. line-fits p l x)
     (λ x. ⊎-elim
     (λ (e : l ≡ record { name = n; text = u; tree = t }). subst (λ (z : Line). (size (z .tree) ≤ 64) × (specials (z .tree) ≤ 7)) (sym e) (m, k))

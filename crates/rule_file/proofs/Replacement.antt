@@ -7,10 +7,12 @@ use Rattle.regex.specs.Tree.{Tree}
 use Rattle.regex.specs.Grammar.{Alt, Reads}
 use Rattle.regex.specs.Lang.{Lang}
 use Rattle.regex.specs.Unordered.{Ordered}
+use Rattle.regex.specs.Stars.{NoDouble}
 use Rattle.regex.proofs.OneReading.{one-reading}
 use Rattle.replacement.specs.Replaced.{Replaced}
 use Rattle.replacement.proofs.Grafted.{filled-is}
 use Rattle.replacement.proofs.Ordering.{replaced-ordered}
+use Rattle.replacement.proofs.SingleStars.{replaced-single}
 use Rattle.rule_line.specs.Lines.{Line}
 use Rattle.rule_line.specs.LineMeaning.{StandsFor}
 use Rattle.rule_line.specs.LineComputed.{textOf}
@@ -44,12 +46,25 @@ pub line-language : {file text : List ℕ} {ls : List Line} → Passed file ls t
     → Lang t ≡ Lang (l .tree)
 line-language p l h t r = ap Lang (one-reading r (line-reads p l h))
 
--- 02 e): a line that has passed has no letter out of order, as it is written and as it is replaced
-pub line-ordered : {file text : List ℕ} {ls : List Line} → Passed file ls text → (l : Line) → List·Memᴰ l ls → Ordered (l .text)
-line-ordered start l h = absurd (List·Memᴰ·not-nil h)
-line-ordered (next {ls = ls} {n = n} {u = u} {t = t} p a r o m k) l h =
-    ⊎-elim (λ x. line-ordered p l x)
+-- what holds of the text of each line, if it does of a replaced text as soon as it does of the lines above
+from-above : (P : List ℕ → Type 0) {file text : List ℕ} {ls : List Line} → Passed file ls text
+    → ((ls : List Line) (s u : List ℕ) → ((l : Line) → List·Memᴰ l ls → P (l .text)) → Replaced (StandsFor ls) s u → Ordered s → NoDouble s → P u)
+    → (l : Line) → List·Memᴰ l ls → P (l .text)
+from-above P start step l h = absurd (List·Memᴰ·not-nil h)
+from-above P (next {ls = ls} {n = n} {s = s} {u = u} {t = t} p a r o d m k) step l h =
+    let above : (l : Line) → List·Memᴰ l ls → P (l .text) = λ l x. from-above P p step l x in
+    ⊎-elim (λ x. above l x)
     (λ x. ⊎-elim
-    (λ (e : l ≡ record { name = n; text = u; tree = t }). subst (λ (z : Line). Ordered (z .text)) (sym e) (replaced-ordered (λ n v (x : StandsFor ls n v). subst Ordered (x .text) (line-ordered p (x .line) (x .earlier))) (r .replaced) o))
+    (λ (e : l ≡ record { name = n; text = u; tree = t }). subst (λ (z : Line). P (z .text)) (sym e) (step ls s u above (r .replaced) o d))
     (λ y. absurd (List·Memᴰ·not-nil y)) (List·Memᴰ·cases-cons x))
     (List·Memᴰ·append-cases ls h)
+
+-- 02 e): a line that has passed has no letter out of order, as it is written and as it is replaced
+pub line-ordered : {file text : List ℕ} {ls : List Line} → Passed file ls text → (l : Line) → List·Memᴰ l ls → Ordered (l .text)
+line-ordered p = from-above Ordered p (λ ls s u above r o d.
+    replaced-ordered (λ n v (x : StandsFor ls n v). subst Ordered (x .text) (above (x .line) (x .earlier))) r o)
+
+-- 02 f): nor a star directly after a star
+pub line-single : {file text : List ℕ} {ls : List Line} → Passed file ls text → (l : Line) → List·Memᴰ l ls → NoDouble (l .text)
+line-single p = from-above NoDouble p (λ ls s u above r o d.
+    replaced-single (λ n v (x : StandsFor ls n v). subst NoDouble (x .text) (above (x .line) (x .earlier))) r d)

@@ -1,4 +1,4 @@
--- What an answer says of a rule file: document 02, requests b) and e). Assumes nothing.
+-- What an answer says of a rule file: document 02, requests b), e) and f). Assumes nothing.
 -- That `fileAnswer` is the one answer which says so is `answer-means` and `answer-is` in proofs/FileAnswered.
 use Prim.Native.Nat.{ℕ, _+_, _≤_, _<_}
 use mathlib.Core.Path.{_≡_}
@@ -7,6 +7,7 @@ use mathlib.Core.List.{List, [], _∷_, _++_}
 use lib.ListN.{length, getD}
 use Rattle.regex.specs.Tree.{Tree, size, specials}
 use Rattle.regex.specs.Unordered.{Unordered, Ordered}
+use Rattle.regex.specs.Stars.{Double, NoDouble}
 use Rattle.rule.specs.RuleMeaning.{FitsLength}
 use Rattle.replacement.specs.Replaced.{Formed}
 use Rattle.rule_line.specs.Lines.{Line}
@@ -18,7 +19,7 @@ use Rattle.rule_file.specs.FileAnswer.{FileAnswer, refusal, acceptance}
 pub data Passed (file : List ℕ) : List Line → List ℕ → Type 0 where
   start : Passed file [] file
   next : {ls : List Line} {text n s more u : List ℕ} {t : Tree} → Passed file ls text → AtRule ls text n s more → ReadsAs ls s u t
-      → Ordered s → size t ≤ 64 → specials t ≤ 7 → Passed file (ls ++ record { name = n; text = u; tree = t } ∷ []) more
+      → Ordered s → NoDouble s → size t ≤ 64 → specials t ≤ 7 → Passed file (ls ++ record { name = n; text = u; tree = t } ∷ []) more
 
 -- "the place of every refusal in it, later numbers too, is the line"
 abbrev pub at : List Line → ℕ
@@ -53,11 +54,14 @@ pub data FileMeaning (file : List ℕ) : FileAnswer → Type 0 where
   -- 02 e): "20, a letter inside brackets that is not above the one before it in byte order .. after 4 and 17"
   unordered-set : {ls : List Line} {text n s more u : List ℕ} {t : Tree} {i : ℕ} → Passed file ls text → AtRule ls text n s more → ReadsAs ls s u t
       → Unordered s i → FileMeaning file (refusal 20 (at ls))
+  -- 02 f): "21, a star directly after a star, .. directly after 20": in the text as it is written
+  double-star : {ls : List Line} {text n s more u : List ℕ} {t : Tree} (i : ℕ) → Passed file ls text → AtRule ls text n s more → ReadsAs ls s u t
+      → Ordered s → Double s i → FileMeaning file (refusal 21 (at ls))
   -- "5: m over 64."
   many-nodes : {ls : List Line} {text n s more u : List ℕ} {t : Tree} → Passed file ls text → AtRule ls text n s more → ReadsAs ls s u t
-      → Ordered s → 64 < size t → FileMeaning file (refusal 5 (at ls))
+      → Ordered s → NoDouble s → 64 < size t → FileMeaning file (refusal 5 (at ls))
   -- "6: k over 7"
   many-specials : {ls : List Line} {text n s more u : List ℕ} {t : Tree} → Passed file ls text → AtRule ls text n s more → ReadsAs ls s u t
-      → Ordered s → size t ≤ 64 → 7 < specials t → FileMeaning file (refusal 6 (at ls))
+      → Ordered s → NoDouble s → size t ≤ 64 → 7 < specials t → FileMeaning file (refusal 6 (at ls))
   -- accepted: "1 to 16 lines", and nothing after them
   accepted : {ls : List Line} → Passed file ls [] → 1 ≤ length ls → FileMeaning file (acceptance ls)

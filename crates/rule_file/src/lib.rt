@@ -103,6 +103,7 @@ pub fn refusal_verdict(refusal: Refusal, line: usize) -> Verdict
         Refusal::NoSentence => verdict::refusal(4, line as u64),
         Refusal::UnknownName => verdict::refusal(17, line as u64),
         Refusal::UnorderedSet => verdict::refusal(20, line as u64),
+        Refusal::DoubleStar => verdict::refusal(21, line as u64),
         Refusal::ManyNodes => verdict::refusal(5, line as u64),
         Refusal::ManySpecials => verdict::refusal(6, line as u64),
     }

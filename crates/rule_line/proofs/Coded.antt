@@ -5,12 +5,13 @@ use mathlib.Core.Path.{_≡_, sym, ap, ap₂, subst, subst₂, _∙_}
 use mathlib.Core.Bool.{true, false}
 use mathlib.Core.List.{List, map}
 use lib.ListN.{length, take}
-use borrow.Author.Tests.{lt-ltb}
+use borrow.Author.Tests.{lt-ltb, le-ltb}
 use Rattle.regex.specs.Tree.{Tree, size, below, specials, records}
 use Rattle.regex.specs.Grammar.{Alt, Reads}
 use Rattle.regex.specs.Scan.{scanned, finds, isSentence}
 use Rattle.regex.specs.TreeOf.{treeOf}
 use Rattle.regex.specs.OrderComputed.{unorderedAt}
+use Rattle.regex.specs.StarsComputed.{doubleAt}
 use Rattle.regex.specs.declared.ScanResult.the-variants.{Complete, Broken}
 use Rattle.rule.proofs.Answered.{complete}
 use Rattle.replacement.specs.Pieces.{pieces, shape}
@@ -18,7 +19,7 @@ use Rattle.replacement.specs.Graft.{moreNodes}
 use Rattle.replacement.proofs.Lengths.{replaced-length}
 use Rattle.rule_line.specs.Lines.{Line}
 use Rattle.rule_line.specs.LineMeaning.{LegalText}
-use Rattle.rule_line.specs.LineComputed.{has, textOf, treeNamed, knows, bad, sized, ordered, replacedBy, judged}
+use Rattle.rule_line.specs.LineComputed.{has, textOf, treeNamed, knows, bad, sized, ordered, single, replacedBy, judged}
 use Rattle.rule_line.specs.Coding.{findFrom, originOf, lineAt, graftedNodes, Cut}
 use Rattle.rule_line.specs.Summing.{knownIn, summed, noSums, Summed}
 use Rattle.rule_line.specs.declared.sums.Sums.{Sums}
@@ -58,9 +59,15 @@ module _ (ls : List Line) (s : List ℕ) (d : Sound ls) (legal : LegalText s) (n
       → unorderedAt s < length s → judged ls s ≡ bad 20
   coded-unordered h g o = past-bytes ls s legal (rw (shape-found ∙ ap finds h, known-found ∙ g, lt-ltb (unorderedAt s) (length s) o))
 
-  -- 20, 5, 6 and the line that passes: m, k, the length and the records of the replaced text
+  -- 21
+  pub coded-double : {m k : ℕ} → scanned (take n shape') ≡ Complete m k → knownIn (length ls) (take n origins) ≡ true
+      → length s ≤ unorderedAt s → doubleAt s < length s → judged ls s ≡ bad 21
+  coded-double h g o x =
+      past-bytes ls s legal (rw (shape-found ∙ ap finds h, known-found ∙ g, le-ltb (unorderedAt s) (length s) o, lt-ltb (doubleAt s) (length s) x))
+
+  -- 20, 21, 5, 6 and the line that passes: m, k, the length and the records of the replaced text
   pub record Coded (m k : ℕ) (places : List ℕ) (lines : List LineNodes) (w : Sums) : Type 0 where
-    pub same : judged ls s ≡ ordered s (sized (replacedBy ls s) (treeOf (replacedBy ls s)))
+    pub same : judged ls s ≡ ordered s (single s (sized (replacedBy ls s) (treeOf (replacedBy ls s))))
     pub nodes : size (treeOf (replacedBy ls s)) ≡ m + w .nodes
     pub special : specials (treeOf (replacedBy ls s)) ≡ k + w .specials
     pub long : length (replacedBy ls s) ≡ w .length

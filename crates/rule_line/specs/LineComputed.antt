@@ -10,6 +10,7 @@ use Rattle.regex.specs.Tree.{Tree, size, specials}
 use Rattle.regex.specs.TreeOf.{treeOf}
 use Rattle.regex.specs.Scan.{isSentence}
 use Rattle.regex.specs.OrderComputed.{unorderedAt}
+use Rattle.regex.specs.StarsComputed.{doubleAt}
 use Rattle.replacement.specs.Pieces.{Piece, own, named, nameLength, pieces, shape, filled}
 use Rattle.rule_line.specs.Lines.{Line}
 use Rattle.rule_line.specs.LineMeaning.{isWritten}
@@ -67,13 +68,17 @@ sized u t = cond (ltb 64 (size t)) (bad 5) (cond (ltb 7 (specials t)) (bad 6) (g
 abbrev pub ordered : List ℕ → Judged → Judged
 ordered s r = cond (ltb (unorderedAt s) (length s)) (bad 20) r
 
+-- 02 f), number 21: "directly after 20"
+abbrev pub single : List ℕ → Judged → Judged
+single s r = cond (ltb (doubleAt s) (length s)) (bad 21) r
+
 abbrev pub replacedBy : List Line → List ℕ → List ℕ
 replacedBy ls s = filled (textOf ls) (pieces s)
 
 unfoldable pub judged : List Line → List ℕ → Judged
 judged ls s =
     let u = replacedBy ls s in
-    let r = ordered s (sized u (treeOf u)) in
+    let r = ordered s (single s (sized u (treeOf u))) in
     cond (eqb (length s) 0) (bad 1)
     (cond (ltb 255 (length s)) (bad 2)
     (cond (ltb (leading isWritten s) (length s)) (bad 3)

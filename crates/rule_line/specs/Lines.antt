@@ -23,7 +23,7 @@ lineNodes t = record { m = size t; k = specials t; nodes = records t ++ unused (
 abbrev pub unusedLines : ℕ → List LineNodes
 unusedLines n = replicate n (record { m = 0; k = 0; nodes = unused 64 })
 
--- 01, 02 b) and 02 e): the number of each refusal
+-- 01, 02 b), 02 e) and 02 f): the number of each refusal
 abbrev pub refusalNumber : Refusal → ℕ
 refusalNumber why.ManyLines = 19
 refusalNumber why.OtherForm = 16
@@ -34,5 +34,6 @@ refusalNumber why.ForeignByte = 3
 refusalNumber why.NoSentence = 4
 refusalNumber why.UnknownName = 17
 refusalNumber why.UnorderedSet = 20
+refusalNumber why.DoubleStar = 21
 refusalNumber why.ManyNodes = 5
 refusalNumber why.ManySpecials = 6

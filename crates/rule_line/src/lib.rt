@@ -19,6 +19,7 @@ pub enum Refusal {
     NoSentence,
     UnknownName,
     UnorderedSet,
+    DoubleStar,
     ManyNodes,
     ManySpecials,
 }

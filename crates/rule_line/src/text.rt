@@ -9,6 +9,7 @@ use regex::Kind;
 use regex::Node;
 use regex::ScanResult;
 use rule::order::find_unordered;
+use rule::stars::find_double;
 ghost use mathlib.Core.Path.{_≡_};
 ghost use mathlib.Core.List.{List};
 ghost use lib.ListN.{length};
@@ -93,6 +94,9 @@ pub fn read_rule(
             if all_known(&origins[..n], r) {
                 if find_unordered(text) < text.len() {
                     return refused_rule(Refusal::UnorderedSet);
+                }
+                if find_double(text) < text.len() {
+                    return refused_rule(Refusal::DoubleStar);
                 }
                 return read_sentence(&shape[..n], &origins[..n], m, k, facts, lines);
             }

@@ -17,13 +17,16 @@ use Rattle.judge.specs.JudgeAnswer.{JudgeAnswer}
 use Rattle.judge.proofs.FileAnswered as judge-file
 use Rattle.job.proofs.Determined as job
 use Rattle.job.specs.JobAnswer.{JobAnswer}
-use Rattle.wuzlevor.specs.ExportComputed.{readRule, readRuleFile, readDay, judgeSpans, judgeRuleFile, runJob}
+use Rattle.rewrite.proofs.Answered as rewrite
+use Rattle.rewrite.specs.RewriteAnswer.{RewriteAnswer}
+use Rattle.wuzlevor.specs.ExportComputed.{readRule, readRuleFile, readDay, judgeSpans, judgeRuleFile, runJob, rewriteRule}
 use Rattle.wuzlevor.specs.Exported.{ruleTold, RuleExport, rule-short, rule-told}
 use Rattle.wuzlevor.specs.Exported.{fileTold, FileExport, file-short, file-told}
 use Rattle.wuzlevor.specs.Exported.{dayTold, DayExport, day-short, day-told}
 use Rattle.wuzlevor.specs.Exported.{judgeTold, JudgeExport, judge-short, judge-told}
 use Rattle.wuzlevor.specs.Exported.{JudgeFileExport, judge-file-short, judge-file-told}
 use Rattle.wuzlevor.specs.Exported.{jobTold, JobExport, job-short, job-told}
+use Rattle.wuzlevor.specs.Exported.{rewriteTold, RewriteExport, rewrite-short, rewrite-told}
 
 pub rule-is : {text answer nodes : List ℕ} {e : ℕ × List ℕ × List ℕ} → RuleExport text answer nodes e → e ≡ readRule text answer nodes
 unfolding readRule
@@ -66,3 +69,9 @@ pub job-is : {job out answer : List ℕ} {e : ℕ × List ℕ × List ℕ} → J
 unfolding runJob
 job-is {answer = answer} (job-short h) = simp (lt-ltb (length answer) 5 h)
 job-is {answer = answer} (job-told h m) = ap (λ (x : JobAnswer). jobTold x answer) (job.answer-is m) ∙ simp (le-ltb (length answer) 5 h)
+
+pub rewrite-is : {text out answer : List ℕ} {e : ℕ × List ℕ × List ℕ} → RewriteExport text out answer e → e ≡ rewriteRule text out answer
+unfolding rewriteRule
+rewrite-is {answer = answer} (rewrite-short h) = simp (lt-ltb (length answer) 5 h)
+rewrite-is {answer = answer} (rewrite-told h m) =
+    ap (λ (x : RewriteAnswer). rewriteTold x answer) (rewrite.answer-is m) ∙ simp (le-ltb (length answer) 5 h)

@@ -38,6 +38,11 @@ use Rattle.job.specs.JobAnswer.{JobAnswer, jobValues}
 use Rattle.job.specs.JobComputed.{jobAnswer}
 use Rattle.job.specs.JobMeaning.{JobMeaning}
 use Rattle.job.specs.declared.Answer as jobs
+use Rattle.rewrite.specs.RewriteAnswer as rewrite
+use Rattle.rewrite.specs.RewriteAnswer.{RewriteAnswer, rewriteValues, textLength}
+use Rattle.rewrite.specs.RewriteComputed.{rewriteAnswer}
+use Rattle.rewrite.specs.RewriteMeaning.{RewriteMeaning}
+use Rattle.rewrite.specs.declared.Outcome as rewriter
 use Rattle.verdict.specs.declared.Verdict.{Verdict}
 use Rattle.wuzlevor.specs.Told.{over, nodeRow, lineRow, overLines}
 use Rattle.wuzlevor.specs.ExportComputed.{verdictRow, LinesFit}
@@ -47,7 +52,8 @@ use Rattle.wuzlevor.specs.Exported.{dayTold, DayExport, day-short, day-t
 use Rattle.wuzlevor.specs.Exported.{judgeTold, JudgeExport, judge-short, judge-told}
 use Rattle.wuzlevor.specs.Exported.{JudgeFileExport, judge-file-short, judge-file-told}
 use Rattle.wuzlevor.specs.Exported.{jobTold, JobExport, job-short, job-told}
-use Rattle.wuzlevor.specs.ExportComputed.{readRule, readRuleFile, readDay, judgeSpans, judgeRuleFile, runJob}
+use Rattle.wuzlevor.specs.Exported.{rewriteTold, RewriteExport, rewrite-short, rewrite-told}
+use Rattle.wuzlevor.specs.ExportComputed.{readRule, readRuleFile, readDay, judgeSpans, judgeRuleFile, runJob, rewriteRule}
 
 -- the two clauses of a contract, for an effect b that tells the answer x
 both : {B : Type 0} (P : B → Type 0) {b x y : B} → b ≡ x → x ≡ y → P x → (b ≡ y) × P b
@@ -189,3 +195,23 @@ module _ {job out answer : List ℕ} where
   job-writes {o} r h e means w =
       both (JobExport job out answer) (ap (λ (x : List ℕ). (r .number, o, x)) w)
       (ap (λ (x : JobAnswer). jobTold x answer) e ∙ simp (le-ltb (length answer) 5 h)) (job-told h means)
+
+-- ---- wuz_rewrite_rule
+module _ {text out answer : List ℕ} where
+  pub rewrite-returns : length answer < 5
+      → ((unanswered, out, answer) ≡ rewriteRule text out answer) × RewriteExport text out answer (unanswered, out, answer)
+  unfolding rewriteRule
+  rewrite-returns h = (simp (lt-ltb (length answer) 5 h), rewrite-short h)
+
+  pub rewrite-writes : {b a : List ℕ} {v : Verdict} {n : ℕ} (o : rewriter.Outcome) → 5 ≤ length answer
+      → rewriteValues o b ≡ rewriteAnswer text out → RewriteMeaning text out (rewriteValues o b)
+      → v ≡ rewrite.outcomeVerdict o → n ≡ textLength o → a ≡ over (verdictRow v ++ n ∷ []) answer
+      → ((v .number, b, a) ≡ rewriteRule text out answer) × RewriteExport text out answer (v .number, b, a)
+  unfolding rewriteRule
+  rewrite-writes {b} {a} {v} {n} o h e means s en w =
+      both (RewriteExport text out answer)
+      (ap (λ (x : List ℕ). (v .number, b, x)) w
+      ∙ ap (λ (x : Verdict). (x .number, b, over (verdictRow x ++ n ∷ []) answer)) s
+      ∙ ap (λ (x : ℕ). rewriteTold (rewrite.told (rewrite.outcomeVerdict o) x b) answer) en)
+      (ap (λ (x : RewriteAnswer). rewriteTold x answer) e ∙ simp (le-ltb (length answer) 5 h))
+      (rewrite-told h means)

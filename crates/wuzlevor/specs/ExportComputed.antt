@@ -1,6 +1,6 @@
 -- What each call of the C interface returns and leaves in the buffers lent to it, computed. Assumes nothing.
--- That nothing else has `RuleExport`, `FileExport`, `DayExport`, `JudgeExport`, `JudgeFileExport`, `JobExport` is `rule-is`, `file-is`,
--- `day-is`, `judge-is`, `judge-file-is`, `job-is` in proofs/Determined.
+-- That nothing else has `RuleExport`, `FileExport`, `DayExport`, `JudgeExport`, `JudgeFileExport`, `JobExport`, `RewriteExport` is `rule-is`,
+-- `file-is`, `day-is`, `judge-is`, `judge-file-is`, `job-is`, `rewrite-is` in proofs/Determined.
 use Prim.Native.Nat.{ℕ, _≤_, _<_}
 use mathlib.Core.Path.{_≡_}
 use mathlib.Core.Bool.{cond, _||_}
@@ -16,7 +16,8 @@ use Rattle.day.specs.DayComputed.{dayAnswer}
 use Rattle.judge.specs.JudgeComputed.{judgeAnswer}
 use Rattle.judge.specs.JudgeFileComputed.{judgeFileAnswer}
 use Rattle.job.specs.JobComputed.{jobAnswer}
-use Rattle.wuzlevor.specs.Exported.{unanswered, ruleTold, fileTold, dayTold, judgeTold, jobTold}
+use Rattle.rewrite.specs.RewriteComputed.{rewriteAnswer}
+use Rattle.wuzlevor.specs.Exported.{unanswered, ruleTold, fileTold, dayTold, judgeTold, jobTold, rewriteTold}
 
 -- of a text and the two buffers at entry
 unfoldable pub readRule : List ℕ → List ℕ → List ℕ → ℕ × List ℕ × List ℕ
@@ -47,6 +48,10 @@ judgeRuleFile file word limit table answer =
 -- of a job and the two buffers at entry
 unfoldable pub runJob : List ℕ → List ℕ → List ℕ → ℕ × List ℕ × List ℕ
 runJob job out answer = cond (ltb (length answer) 5) (unanswered, out, answer) (jobTold (jobAnswer job out) answer)
+
+-- of a rule text and the two buffers at entry
+unfoldable pub rewriteRule : List ℕ → List ℕ → List ℕ → ℕ × List ℕ × List ℕ
+rewriteRule text out answer = cond (ltb (length answer) 5) (unanswered, out, answer) (rewriteTold (rewriteAnswer text out) answer)
 
 -- ---- what the functions write
 

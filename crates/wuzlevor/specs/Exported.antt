@@ -16,7 +16,9 @@ use Rattle.judge.specs.JudgeMeaning.{JudgeMeaning}
 use Rattle.judge.specs.JudgeFileMeaning.{JudgeFileMeaning}
 use Rattle.job.specs.JobAnswer.{JobAnswer}
 use Rattle.job.specs.JobMeaning.{JobMeaning}
-use Rattle.wuzlevor.specs.Told.{over, lineRow, overLines, ruleRow, ruleNodes, fileRow, linesOf, dayRow, judgeRow, jobRow}
+use Rattle.rewrite.specs.RewriteAnswer.{RewriteAnswer}
+use Rattle.rewrite.specs.RewriteMeaning.{RewriteMeaning}
+use Rattle.wuzlevor.specs.Told.{over, lineRow, overLines, ruleRow, ruleNodes, fileRow, linesOf, dayRow, judgeRow, jobRow, rewriteRow}
 
 -- WUZ_UNANSWERED, the greatest 64-bit number
 abbrev pub unanswered : ℕ
@@ -77,3 +79,12 @@ jobTold a answer = (a .number, a .out, over (jobRow a) answer)
 pub data JobExport (job out answer : List ℕ) : ℕ × List ℕ × List ℕ → Type 0 where
   job-short : length answer < 5 → JobExport job out answer (unanswered, out, answer)
   job-told : {a : JobAnswer} → 5 ≤ length answer → JobMeaning job out a → JobExport job out answer (jobTold a answer)
+
+-- ---- wuz_rewrite_rule: what is returned, and the buffers `out` and `answer`
+abbrev pub rewriteTold : RewriteAnswer → List ℕ → ℕ × List ℕ × List ℕ
+rewriteTold a answer = (a .number, a .out, over (rewriteRow a) answer)
+
+-- of a text and the two buffers at entry
+pub data RewriteExport (text out answer : List ℕ) : ℕ × List ℕ × List ℕ → Type 0 where
+  rewrite-short : length answer < 5 → RewriteExport text out answer (unanswered, out, answer)
+  rewrite-told : {a : RewriteAnswer} → 5 ≤ length answer → RewriteMeaning text out a → RewriteExport text out answer (rewriteTold a answer)

@@ -10,6 +10,7 @@ use Rattle.rule_line.specs.declared.LineNodes.{LineNodes}
 use Rattle.day.specs.DayAnswer.{DayAnswer}
 use Rattle.judge.specs.JudgeAnswer.{JudgeAnswer}
 use Rattle.job.specs.JobAnswer.{JobAnswer}
+use Rattle.rewrite.specs.RewriteAnswer.{RewriteAnswer}
 
 -- a row of numbers at the front of a buffer, which keeps what lies beyond
 abbrev pub over : List ℕ → List ℕ → List ℕ
@@ -60,3 +61,6 @@ linesOf a = take (a .r) (a .lines)
 
 abbrev pub jobRow : JobAnswer → List ℕ
 jobRow a = a .number ∷ a .place ∷ a .found ∷ a .count ∷ a .n ∷ []
+
+abbrev pub rewriteRow : RewriteAnswer → List ℕ
+rewriteRow a = a .number ∷ a .place ∷ a .found ∷ a .count ∷ a .n ∷ []

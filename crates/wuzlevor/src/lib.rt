@@ -4,8 +4,8 @@ mod row;
 
 use verdict::Verdict;
 ghost use mathlib.Core.Path.{_≡_};
-ghost use Rattle.wuzlevor.specs.Exported.{RuleExport, FileExport, DayExport, JudgeExport, JudgeFileExport, JobExport};
-ghost use Rattle.wuzlevor.specs.ExportComputed.{readRule, readRuleFile, readDay, judgeSpans, judgeRuleFile, runJob};
+ghost use Rattle.wuzlevor.specs.Exported.{RuleExport, FileExport, DayExport, JudgeExport, JudgeFileExport, JobExport, RewriteExport};
+ghost use Rattle.wuzlevor.specs.ExportComputed.{readRule, readRuleFile, readDay, judgeSpans, judgeRuleFile, runJob, rewriteRule};
 
 // The elements that each call writes to its answer, and those that `nodes` and `lines` must have.
 const RULE_ANSWER: usize = 6;
@@ -17,6 +17,8 @@ const DAY_ANSWER: usize = 5;
 const JUDGE_ANSWER: usize = 4;
 
 const JOB_ANSWER: usize = 5;
+
+const REWRITE_ANSWER: usize = 5;
 
 const NODES: usize = 128;
 
@@ -171,4 +173,22 @@ pub extern "C" fn wuz_run_job(job: &[u8], out: &mut [u8], answer: &mut [u64]) ->
     };
     row::write_five(answer, said, told.n as u64);
     told.number
+}
+
+// Rewrites a stored rule: each run of stars becomes one star.
+#[no_mangle]
+pub extern "C" fn wuz_rewrite_rule(text: &[u8], out: &mut [u8], answer: &mut [u64]) -> u64
+    ensures value { λ r. ⌜ (r, now (out .exit), now (answer .exit))
+        ≡ rewriteRule (now (text .entry)) (now (out .entry)) (now (answer .entry)) ⌝ }
+    ensures meaning { λ r. ⌜ RewriteExport (now (text .entry)) (now (out .entry)) (now (answer .entry))
+        (r, now (out .exit), now (answer .exit)) ⌝ }
+{
+    if answer.len() < REWRITE_ANSWER {
+        return UNANSWERED;
+    }
+    let outcome = rewrite::rewrite(text, out);
+    let said = rewrite::outcome_verdict(outcome);
+    let length = rewrite::text_length(outcome);
+    row::write_five(answer, said, length as u64);
+    said.number
 }

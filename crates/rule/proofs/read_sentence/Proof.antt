@@ -1,64 +1,47 @@
--- `read_sentence` is the definition `ordered` of the text and its tree. Assumes nothing.
+-- `read_sentence` answers as `ruleAnswer`. Assumes nothing.
+use Prim.Native.Nat.{ℕ}
 use native.Mathlib.Omega.{arith}
-use Prim.Native.Nat.{ℕ, _≤_}
 use mathlib.Core.Path.{_≡_, sym, ap, _∙_}
-use mathlib.Core.Bool.{false}
-use mathlib.Core.List.{List}
-use lib.Dec.{ltb}
 use lib.ListN.{length}
-use borrow.Author.Tests.{lt-ltb, le-ltb}
-use Rattle.regex.specs.Tree.{size, specials}
-use Rattle.regex.specs.TreeOf.{treeOf}
-use Rattle.regex.specs.OrderComputed.{unorderedAt}
-use Rattle.rule.specs.RuleAnswer.{refusal}
-use Rattle.rule.proofs.Answered.{answerOf, accepted-values, complete}
+use borrow.Author.Needs.{needs}
+use borrow.Author.Tests.{lt-ltb}
+use Rattle.regex.specs.StarsComputed.{doubleAt}
+use Rattle.rule.specs.RuleAnswer.{refusal, ruleValues}
+use Rattle.rule.specs.declared.Outcome.the-variants.{Accepted}
+use Rattle.rule.proofs.Answered.{answerOf, answer-after, past-stars, readable}
 use Rattle.rule.proofs.read_sentence.Statement.{statement}
 use Rattle.rule.proofs.read_sentence.Tie as tie
-
--- the search went to the end
-in-order : (s : List ℕ) {i : ℕ} → i ≡ unorderedAt s → length s ≤ i → ltb (unorderedAt s) (length s) ≡ false
-in-order s e h = le-ltb (unorderedAt s) (length s) (omega arith)
 
 pub read-sentence-spec : {M : Type 1} → statement M
 read-sentence-spec =
     tie.close (tie.spec
     (λ c κs. tt)
-    -- a set out of order
     (λ c κs. tt)
+    -- a star directly after a star
     (λ c.
     let f = c .before .before in
-    let s = f .before .before .args .text .now in
-    let v : answerOf (c .refused .result) ≡ refusal 20 (f .find-unordered .result) = c .refused .ensures in
-    let e = f .find-unordered .ensures in
-    v ∙ ap (refusal 20) e ∙ sym (simp (lt-ltb (unorderedAt s) (length s) (omega (arith, c .before .if1 .taken)))))
+    let b = f .before .before in
+    let s = b .args .text .now in
+    let v : answerOf (c .refused .result) ≡ refusal 21 (f .find-double .result) = c .refused .ensures in
+    let e = f .find-double .ensures in
+    v ∙ ap (refusal 21) e ∙ sym (answer-after s (b .pre) ∙ simp (lt-ltb (doubleAt s) (length s) (omega (arith, c .before .if1 .taken)))))
     (λ c κs. tt)
-    (λ c.
-    let f = c .before .before .before in
-    let b = f .before .before in
-    let s = b .args .text .now in
-    let t = treeOf s in
-    let w = complete (b .pre .1) in
-    let o = in-order s (f .find-unordered .ensures) (c .before .before .if1 .left) in
-    c .refused2 .ensures ∙ sym (simp (o, lt-ltb 64 (size t) (omega arith))))
+    (λ c. search needs)
     (λ c κs. tt)
+    (λ c. search needs)
+    (λ c κs. readable (c .before .before .before .before .before .before .before .pre) (sym (c .before .before .before .check-size .ensures) ∙ c .before .m .given .1))
     (λ c.
-    let f = c .before .before .before .before in
+    let z = c .before .before .before .before in
+    let f = z .before .before in
     let b = f .before .before in
-    let s = b .args .text .now in
-    let t = treeOf s in
-    let w = complete (b .pre .1) in
-    let o = in-order s (f .find-unordered .ensures) (c .before .before .before .if1 .left) in
-    c .refused3 .ensures ∙ sym (simp (o, le-ltb 64 (size t) (omega arith), lt-ltb 7 (specials t) (omega arith))))
-    (λ c κs.
-    let b = c .before .before .before .before .before in
-    let w = complete (b .pre .1) in
-    (omega arith, record { sentence = w .0; few = omega arith }))
+    let e = f .find-double .ensures in
+    c .refused2 .ensures
+    ∙ sym (past-stars (b .args .text .now) (b .pre) (omega (arith, z .before .if1 .left)) (sym (z .check-size .ensures) ∙ c .before .before .excess .given .1)))
     (λ c.
-    let f = c .before .before .before .before in
+    let z = c .before .before .before .before in
+    let f = z .before .before in
     let b = f .before .before in
-    let s = b .args .text .now in
-    let t = treeOf s in
-    let w = complete (b .pre .1) in
-    let o = in-order s (f .find-unordered .ensures) (c .before .before .before .if1 .left) in
-    accepted-values t (omega arith) (omega arith) (c .read-text .ensures)
-    ∙ sym (simp (o, le-ltb 64 (size t) (omega arith), le-ltb 7 (specials t) (omega arith)))))
+    let e = f .find-double .ensures in
+    let o = c .before .before .m .given in
+    ap (ruleValues (Accepted (o .0 .0) (o .0 .1 .0))) (c .read-text .ensures)
+    ∙ sym (past-stars (b .args .text .now) (b .pre) (omega (arith, z .before .if1 .left)) (sym (z .check-size .ensures) ∙ o .1))))

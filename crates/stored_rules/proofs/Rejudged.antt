@@ -1,0 +1,76 @@
+-- The judge answers of a stored rule's rewritten text as of the rule's own reading, but for a count no higher, unless that stops at the
+-- limit. Assumes nothing.
+use Prim.Native.Nat.{ℕ, _≤_}
+use native.Mathlib.Omega.{arith}
+use mathlib.Core.Path.{_≡_, refl, sym, ap, subst, _∙_}
+use mathlib.Core.Bool.{Bool, true, false, cond}
+use mathlib.Core.List.{List, _++_}
+use lib.Dec.{eqb, ltb}
+use lib.ListN.{length, drop}
+use borrow.Author.Tests.{ltb-false, le-ltb}
+use Rattle.event.specs.Event.{Word}
+use Rattle.regex.specs.Tree.{Tree, specials}
+use Rattle.work.specs.Count.{fullCount}
+use Rattle.work.specs.Table.{needOf}
+use Rattle.work.specs.TableComputed.{table}
+use Rattle.matcher.specs.MatchAnswer.{told}
+use Rattle.matcher.specs.MatchComputed.{spent, acceptance, limited, fitAnswer, afterFit, matchAnswer}
+use Rattle.judge.specs.JudgeAnswer.{JudgeAnswer}
+use Rattle.judge.specs.JudgeComputed.{judgeAnswer}
+use Rattle.judge.proofs.Determined.{to-match}
+use Rattle.rewrite.specs.Rewritten.{rewritten}
+use Rattle.rewrite.specs.RewriteMeaning.{Stored}
+use Rattle.rewrite.specs.Same.{Same}
+use Rattle.rewrite.proofs.Stays.{table-same, found-same}
+use Rattle.rewrite.proofs.Carried.{carried}
+use Rattle.stored_rules.specs.SameJudged.{SameJudged}
+
+-- unless the first is a 10
+abbrev Unspent : JudgeAnswer → JudgeAnswer → Type 0
+Unspent a b = (a .number ≡ 10 → ⊥) → SameJudged a b
+
+same : (a : JudgeAnswer) → Unspent a a
+same a n = record { number = refl; place = refl; found = refl; table = refl; count = omega arith }
+
+-- two answers by the same test
+tested : (t : Bool) (a b c d : JudgeAnswer) → Unspent a b → Unspent c d → Unspent (cond t a c) (cond t b d)
+tested true a b c d p q = p
+tested false a b c d p q = q
+
+module _ (w : Word) (limit : ℕ) (old : List ℕ) (t u : Tree) (p : Same t u) (fewer : fullCount w u ≤ fullCount w t) where
+  accepted-same : Unspent (acceptance t w old) (acceptance u w old)
+  accepted-same n = record {
+    number = refl;
+    place = refl;
+    found = sym (found-same t u (p .lang) w);
+    table = sym (ap (λ (b : List ℕ). b ++ drop (needOf (specials t) (length w)) old) (table-same t u p w)
+        ∙ ap (λ (k : ℕ). table w u ++ drop (needOf k (length w)) old) (sym (p .special)));
+    count = fewer;
+  }
+
+  limited-same : Unspent (limited t w limit old) (limited u w limit old)
+  limited-same = go (ltb limit (fullCount w t)) refl
+    where
+      go : (b : Bool) → ltb limit (fullCount w t) ≡ b → Unspent (limited t w limit old) (limited u w limit old)
+      go true e = subst (λ (x : Bool). Unspent (cond x (spent (needOf (specials t) (length w)) limit old) (acceptance t w old)) (limited u w limit old))
+          (sym e) (λ n. absurd (n refl))
+      go false e =
+          let l = ltb-false limit (fullCount w t) e in
+          let f : ltb limit (fullCount w u) ≡ false = le-ltb limit (fullCount w u) (omega arith) in
+          rw (e, f) accepted-same
+
+  match-same : Unspent (matchAnswer t w limit old) (matchAnswer u w limit old)
+  unfolding matchAnswer
+  match-same =
+      subst (λ (k : ℕ). Unspent (matchAnswer t w limit old) (afterFit (fitAnswer k w old) old (limited u w limit old))) (sym (p .special))
+      (tested (eqb (fitAnswer (specials t) w old .number) 0) _ _ (told (fitAnswer (specials t) w old) old) _ limited-same
+      (same (told (fitAnswer (specials t) w old) old)))
+
+-- `matchAnswer t` is what the judge answers of a rule that passes its row and is read as t, and so what it answered of a stored rule before
+-- there was a 21
+pub rejudged : (s : List ℕ) (t : Tree) → Stored s t → (w : Word) (limit : ℕ) (old : List ℕ) → (matchAnswer t w limit old .number ≡ 10 → ⊥)
+    → SameJudged (matchAnswer t w limit old) (judgeAnswer (rewritten s) w limit old)
+rejudged s t p w limit old n =
+    let (u, c) = carried p in
+    subst (λ (a : JudgeAnswer). SameJudged (matchAnswer t w limit old) a) (to-match (rewritten s) w limit old u (c .passed))
+    (match-same w limit old t u (c .same) (c .counts w) n)
