@@ -3,7 +3,8 @@
  * Texts. An event is one byte, one of the 52 letters A to Z and a to z; a and A are two events. A rule is a text of letters, sets of letters
  * such as [abc] (any one of them; they rise in byte order, capitals first), . (any one of all 52), 0 (no word), 1 (the empty word), | (or),
  * & (and), ! (not: all other words of letters), * (any number of times) and parentheses; two rules side by side are one after the other.
- * From loosest to tightest: |, &, side by side, ! in front, * behind; what has two sides groups from the left.
+ * From loosest to tightest: |, &, side by side, ! in front, * behind; what has two sides groups from the left. No * stands directly after
+ * a *, which is taken for a typing slip; (a*)* is fine.
  * A rule's nodes are its letters, sets, dots, 0s, 1s and operators, "side by side" included; a set is one node, at the offset of its [.
  * A rule file has 1 to 16 lines: R, tab, name, tab, rule, newline. A name is 1 to 12 letters a to z. In a rule of a file <name> stands for
  * the rule of the line above that has this name, in parentheses and with its own names replaced; its nodes and their offsets are those of
@@ -31,13 +32,14 @@
  *    1  it is empty
  *    2  it is over 255 bytes
  *    3  it has a byte that no rule may have; place: the offset of the first one
- *    4  it is no sentence, which is a text formed as above, with the letters of a set in any order; place: the length of its longest
- *       beginning that some sentence also has
+ *    4  it is no sentence, which is a text formed as above, with the letters of a set in any order and any number of * after each other;
+ *       place: the length of its longest beginning that some sentence also has
  *   20  a letter of a set is not above the one before it in byte order; place: the offset of the first such letter
+ *   21  a * stands directly after a *; place: the offset of the first * that does; not of wuz_rewrite_rule
  *    5  it has over 64 nodes
  *    6  it has over 7 nodes & and !
  *   or a rule file: its lines in turn, and the first bad line is told, whatever the last line uses; place is always the line, from 1; in a
- *   line the first of these that fits, 19, 16 and 18, and then its rule: 1, 2 (of the bytes as written), 3, 4, 17, 20, 5, 6
+ *   line the first of these that fits, 19, 16 and 18, and then its rule: 1, 2 (of the bytes as written), 3, 4, 17, 20, 21, 5, 6
  *   16  it is not of the form, its newline included; or the file is empty, place: 1
  *   17  its rule has a <name> that no line above has; 4 is judged before, with each <name> as a rule in parentheses, whatever it stands for,
  *       and a < or > that belongs to no <name> is 4
@@ -48,7 +50,8 @@
  *   12  a line is not of the form; place: the line, from 1
  *   13  a second is over 89,999 or below the line before; place: the line
  *   14  a 256th line has begun, whatever stands in it; place: 256
- *   15  `letters` or `seconds` is shorter than the day; of wuz_run_job, after all else: `out` is shorter than the text
+ *   15  `letters` or `seconds` is shorter than the day; of wuz_run_job and
+ *       wuz_rewrite_rule, after all else: `out` is shorter than the text
  *   or, for wuz_judge and wuz_judge_rule_file, after the rule or the file: the first of these that fits
  *    7  the word is over 255 events
  *    8  it has a byte that is no letter; place: the offset of the first one
@@ -72,6 +75,7 @@ extern "C" {
 #define WUZ_DAY_ANSWER 5
 #define WUZ_JUDGE_ANSWER 4
 #define WUZ_JOB_ANSWER 5
+#define WUZ_REWRITE_ANSWER 5
 #define WUZ_NODES 128
 #define WUZ_RULE_FILE_NODES 2048
 #define WUZ_LINES 32
@@ -79,7 +83,8 @@ extern "C" {
 /* Returned by a call that has no room for its answer; no number of the table above. */
 #define WUZ_UNANSWERED UINT64_MAX
 
-/* The most that a day, the table of a judgement, its work count and the text of a job can be. */
+/* The most that a rule, a day, the table of a judgement, its work count and the text of a job can be. */
+#define WUZ_MOST_RULE 255
 #define WUZ_MOST_EVENTS 255
 #define WUZ_MOST_TABLE 8192
 #define WUZ_MOST_WORK 4210688
@@ -90,7 +95,7 @@ extern "C" {
  * the node itself; what follows is not touched. "Side by side" has the offset at which its right side begins. Kinds: 0 empty, 1 epsilon,
  * 2 union, 3 intersection, 4 concatenation, 5 complement, 6 star, or for a set of letters 2^63 + the sum of 2^i over its letters, i = 0 to 25
  * for A to Z and 26 to 51 for a to z; a letter's is that of the set of this one, so that of a and of [a] are the same.
- * Numbers: 0 to 6, 20. */
+ * Numbers: 0 to 6, 20, 21. */
 uint64_t wuz_read_rule(const uint8_t *text, size_t text_len, uint64_t *answer, size_t answer_len, uint64_t *nodes, size_t nodes_len);
 
 /* Reads a rule file. answer (5): number, place, 0, 0, r: the file has r lines.
@@ -98,7 +103,7 @@ uint64_t wuz_read_rule(const uint8_t *text, size_t text_len, uint64_t *answer, s
  * each line are written as wuz_read_rule writes them; those of line l, from 0, begin at element 128 * l. An offset can be over
  * 65,535.
  * Nothing else is touched.
- * Numbers: 0 to 6, 16 to 20. */
+ * Numbers: 0 to 6, 16 to 21. */
 uint64_t wuz_read_rule_file(const uint8_t *file, size_t file_len, uint64_t *answer, size_t answer_len, uint64_t *lines, size_t lines_len,
                             uint64_t *nodes, size_t nodes_len);
 
@@ -113,13 +118,13 @@ uint64_t wuz_read_day(const uint8_t *file, size_t file_len, uint8_t *letters, si
  * table: (k + 1) * (n + 1) * 4 numbers are needed; what follows them is not touched. On acceptance they are written: a block of n + 1 rows
  * of four numbers for the whole rule, and then one for the part that each & or ! heads, in rising byte offset. In row i of a block, span
  * (i, j) is bit j % 64 (the lowest is bit 0) of number j / 64: 1 exactly if the span obeys. All other bits are 0.
- * Numbers: 0 to 10, 20. */
+ * Numbers: 0 to 10, 20, 21. */
 uint64_t wuz_judge(const uint8_t *rule, size_t rule_len, const uint8_t *word, size_t word_len, uint64_t limit, uint64_t *table,
                    size_t table_len, uint64_t *answer, size_t answer_len);
 
 /* Judges every span of a word by the rule of a file's last line, as wuz_judge does by a rule: m and k, and the order of the blocks, are
  * those of that line's replaced text. answer (4) and table: as of wuz_judge.
- * Numbers: 0 to 10, 16 to 20. */
+ * Numbers: 0 to 10, 16 to 21. */
 uint64_t wuz_judge_rule_file(const uint8_t *file, size_t file_len, const uint8_t *word, size_t word_len, uint64_t limit, uint64_t *table,
                              size_t table_len, uint64_t *answer, size_t answer_len);
 
@@ -127,8 +132,17 @@ uint64_t wuz_judge_rule_file(const uint8_t *file, size_t file_len, const uint8_t
  * out: on acceptance the first n bytes are written: a line H, n, m, k, found, count (here n is the number of events), and for each span
  * that obeys a line S, i, j, by rising i and then rising j; fields are decimal, with a tab before each and a newline after the line.
  * What follows is not touched.
- * Numbers: 0 to 6, 11 to 16, 20. */
+ * Numbers: 0 to 6, 11 to 16, 20, 21. */
 uint64_t wuz_run_job(const uint8_t *job, size_t job_len, uint8_t *out, size_t out_len, uint64_t *answer, size_t answer_len);
+
+/* Rewrites a stored rule, in which a * may stand directly after a *: each run of * becomes one *, and nothing else changes. answer (5):
+ * number, place, 0, 0, n: the new text has n bytes, no more than the old one. All but 21 is judged on the text as given, so a rule of 65
+ * nodes is 5 however few are left.
+ * out: on acceptance the first n bytes are written, the new text; what follows is not touched. Every call that reads a rule accepts it, with
+ * an m no larger, the same k and the same spans, in every block of the table; the work count is no higher. A rule without such * comes back
+ * as it is.
+ * Numbers: 0 to 6, 15, 20. */
+uint64_t wuz_rewrite_rule(const uint8_t *text, size_t text_len, uint8_t *out, size_t out_len, uint64_t *answer, size_t answer_len);
 
 #ifdef __cplusplus
 }

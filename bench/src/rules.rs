@@ -37,13 +37,13 @@ pub fn rules() -> Vec<Rule> {
 }
 
 fn without_specials() -> Vec<Rule> {
-    let starred_unions = format!("({}a*)**", "(a|a)*".repeat(12));
+    let starred_unions = format!("(({}a*)*)*", "(a|a)*".repeat(12));
     let a_and_13_more = format!("(a|b)*a{}", "(a|b)".repeat(13));
     vec![
         // The longest chains of free moves, from one letter.
-        worst("deep stars", format!("a{}", "*".repeat(63)), all_a),
+        worst("deep stars", format!("{}a{}", "(".repeat(62), "*)".repeat(62) + "*"), all_a),
         // Every letter leads to every other: the largest sets of states.
-        worst("stars in a row", format!("({})**", "a*".repeat(21)), all_a),
+        worst("stars in a row", format!("(({})*)*", "a*".repeat(21)), all_a),
         // The most letters that 64 nodes can hold, all of them taken by every event.
         worst("union", format!("({})*", ["a"; 32].join("|")), all_a),
         // As many letters nearly, with a star around each pair.
@@ -54,9 +54,9 @@ fn without_specials() -> Vec<Rule> {
 }
 
 fn complements() -> Vec<Rule> {
-    let grown = format!("({}!(a*b)aa*a*)**", "!(a*b)a".repeat(6));
+    let grown = format!("(({}!(a*b)aa*a*)*)*", "!(a*b)a".repeat(6));
     let between = format!("{}!0", "!0a".repeat(6));
-    let between_grown = format!("({})**", "!0a*a*".repeat(7));
+    let between_grown = format!("(({})*)*", "!0a*a*".repeat(7));
     let nested = (0..6).fold("!(a*aa*)".to_string(), |inner, _| {
         format!("!(a*a*a{inner})")
     });
@@ -81,7 +81,7 @@ fn complements() -> Vec<Rule> {
 
 fn intersections() -> Vec<Rule> {
     let three = "(a*&a*)".repeat(3);
-    let in_a_row = format!("((a*&a*)(a*&b*){three}(a**&a*)(a*&a*)a*0*aa*a*a*)*");
+    let in_a_row = format!("((a*&a*)(a*&b*){three}((a*)*&a*)(a*&a*)a*0*aa*a*a*)*");
     let inner = (0..6).fold("a*".to_string(), |inner, _| format!("(({inner}&a*)aa*)*"));
     let example = "((ttt)*t&(tttt)*ttt)bt*".replace('t', "(a|b)");
     vec![

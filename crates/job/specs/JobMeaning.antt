@@ -57,7 +57,7 @@ pub record Lists (w : Word) (t : Tree) (found count : ℕ) (text : List ℕ) : T
 pub data JobRefused (s : List ℕ) : ℕ → ℕ → Type 0 where
   -- "16: not `R`, tab, then bytes up to a newline"
   no-rule-line : ((rule file : List ℕ) → Parted s rule file → ⊥) → JobRefused s 16 0
-  -- 1 to 6 and 20: the rule text's row
+  -- 1 to 6, 20 and 21: the rule text's row
   rule-refused : {rule file : List ℕ} {n p : ℕ} → Parted s rule file → RuleMeaning rule (reader.refusal n p) → JobRefused s n p
   -- 11 to 14: the day file's row
   day-refused : {rule file : List ℕ} {t : Tree} {n p : ℕ} → Parted s rule file → Passed rule t → DayRefused file n p → JobRefused s n p

@@ -13,7 +13,7 @@ use Rattle.judge.specs.JudgeAnswer.{JudgeAnswer}
 
 -- what holds at entry, and the whole answer
 pub data JudgeMeaning (s : List ℕ) (w : Word) (limit : ℕ) (old : List ℕ) : JudgeAnswer → Type 0 where
-  -- 1 to 6 and 20: the rule text's row. "On every refusal but 10 .. no lent buffer changes"
+  -- 1 to 6, 20 and 21: the rule text's row. "On every refusal but 10 .. no lent buffer changes"
   rule-refused : {n p : ℕ} → RuleMeaning s (reader.refusal n p) → JudgeMeaning s w limit old (refusal n p old)
   -- 7 to 10, or accepted, "after the rule text's row": the text passes it, and `MatchMeaning`, of matcher, has a constructor for each
   rule-passed : {t : Tree} {a : JudgeAnswer} → Passed s t → MatchMeaning t w limit old a → JudgeMeaning s w limit old a

@@ -11,7 +11,7 @@ use Rattle.event.specs.Letters.{isReserved}
 use Rattle.event.proofs.EventLaws.{reserved-foreign}
 use Rattle.event.proofs.Tests.{and-split}
 use Rattle.regex.specs.Unordered.{Ordered}
-use Rattle.regex.specs.OrderComputed.{noted, falls}
+use Rattle.regex.specs.OrderComputed.{noted}
 use Rattle.regex.proofs.UnorderedLaws.{FallsAt, Rising, rising-ordered, ordered-rising, rises-on, rises-with}
 use Rattle.replacement.specs.Replaced.{isLower, Lowers, Replaced, ends, byte, name}
 

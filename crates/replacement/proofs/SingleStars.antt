@@ -1,7 +1,7 @@
 -- No star stands directly after a star in a replaced text, if none does in the written text and in what its names stand for. Assumes nothing.
 use Prim.Native.Nat.{ℕ}
 use native.Mathlib.Omega.{arith}
-use mathlib.Core.List.{List, [], _∷_, _++_}
+use mathlib.Core.List.{List, _∷_, _++_}
 use Rattle.regex.specs.Stars.{NoDouble}
 use Rattle.regex.proofs.DoubleLaws.{single-behind, single-with, single-end, single-joined}
 use Rattle.replacement.specs.Replaced.{Replaced, ends, byte, name}

@@ -10,7 +10,6 @@ use Rattle.event.proofs.Tests.{choose}
 use Rattle.regex.specs.Stars.{NoDouble}
 use Rattle.regex.specs.Tree.{Tree, size, specials}
 use Rattle.verdict.specs.declared.Verdict.{Verdict}
-use Rattle.rule.specs.RuleAnswer.{refusalVerdict}
 use Rattle.rule.specs.RuleComputed.{sentenceOutcome, sizeOutcome, sized, storedOutcome}
 use Rattle.rule.specs.RuleMeaning.{Fit}
 use Rattle.rule.specs.declared.Outcome.{Outcome}

@@ -29,7 +29,7 @@ use Rattle.verdict.specs.Verdicts.{refused}
 use Rattle.verdict.specs.declared.Verdict.{Verdict}
 use Rattle.rule.specs.RuleAnswer.{RuleAnswer, isRuleByte, refusal, acceptance, values, nodesFor, ruleValues, refusalVerdict, unused, told}
 use Rattle.rule.specs.RuleComputed.{foreignAt, ordered, afterScan, sentenceOutcome, single, sizeOutcome, sized, nodesWith, ruleAnswer}
-use Rattle.rule.specs.RuleMeaning.{FitsLength, Legal, Fit, Passed, Unfit, empty-text, long-text, foreign-byte, no-sentence, unordered-set}
+use Rattle.rule.specs.RuleMeaning.{FitsLength, Legal, Fit, Unfit, empty-text, long-text, foreign-byte, no-sentence, unordered-set}
 use Rattle.rule.specs.RuleMeaning.{RuleMeaning, unfit, double-star, many-nodes, many-specials, accepted}
 use Rattle.rule.specs.Reader.{Readable}
 use Rattle.rule.specs.declared.Answer.{Answer}

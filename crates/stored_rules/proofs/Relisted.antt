@@ -1,10 +1,10 @@
 -- A job with the rewritten text of a stored rule has the `S` lines of the rule's own reading. Assumes nothing.
-use Prim.Native.Nat.{ℕ, _≤_, _<_}
+use Prim.Native.Nat.{ℕ, _<_}
 use native.Mathlib.Omega.{arith}
 use mathlib.Core.Path.{_≡_, refl, sym, ap, subst, _∙_}
-use mathlib.Core.Bool.{true, true≢false}
+use mathlib.Core.Bool.{true≢false}
 use mathlib.Core.List.{List, _++_, map}
-use lib.ListN.{length, getD, length-map}
+use lib.ListN.{length, getD}
 use Rattle.event.specs.Event.{isEvent, Word}
 use Rattle.regex.specs.Tree.{Tree}
 use Rattle.rule.specs.RuleAnswer.{isRuleByte}

@@ -1,22 +1,25 @@
 -- How spans join and split, and which spans obey a rule. Assumes nothing.
 use mathlib.Core.Path.{_≡_, refl, sym, ap, subst, _∙_}
 use mathlib.Core.List.{[], _∷_, _++_, cons-eq-cons}
-use Prim.Native.Nat.{ℕ, suc, _+_, _-_, _≤_, _<_}
+use Prim.Native.Nat.{ℕ, zero, suc, _+_, _-_, _≤_, _<_}
 use native.Mathlib.Omega.{arith}
 use lib.Dec.{T}
-use lib.ListN.{length, getD, take, drop, length-append, take-append-drop}
-use lib.Seq.{slice, slice-empty, slice-cons, length-slice, take-take, length-take-le, drop-append-le, take-at, drop-at}
+use lib.ListN.{length, getD, take, drop, length-append}
+use lib.Seq.{slice, slice-empty, slice-cons, length-slice, take-nil, drop-nil, take-at, drop-at}
 use Rattle.regex.specs.Tree.{Tree, epsilon, letter, concatenation, star}
 use Rattle.event.specs.Event.{Word}
 use Rattle.event.specs.LetterSets.{holds}
 use Rattle.event.specs.declared.sets.LetterSet.{LetterSet}
 use Rattle.work.specs.Span.{Obeys}
 
-pub slice-join : (w : Word) (j k l : ℕ) → j ≤ k → k ≤ l → l ≤ length w → slice j k w ++ slice k l w ≡ slice j l w
-slice-join w j k l p q r =
-    let h : j ≤ length (take k w) = rw (length-take-le k w (omega arith)) p in
-    sym (ap (drop j) (sym (take-append-drop k (take l w)) ∙ ap (λ z. z ++ slice k l w) (take-take k l w q)) ∙ drop-append-le j (take k w)
-    (slice k l w) h)
+pub slice-join : (w : Word) (j k l : ℕ) → j ≤ k → k ≤ l → slice j k w ++ slice k l w ≡ slice j l w
+slice-join [] j k l p q = simp (take-nil, drop-nil)
+slice-join (x ∷ w) zero zero l p q = refl
+slice-join (x ∷ w) zero (suc k) zero p q = absurd (omega arith)
+slice-join (x ∷ w) zero (suc k) (suc l) p q = ap (λ (u : Word). x ∷ u) (slice-join w 0 k l (omega arith) (omega arith))
+slice-join (x ∷ w) (suc j) zero l p q = absurd (omega arith)
+slice-join (x ∷ w) (suc j) (suc k) zero p q = absurd (omega arith)
+slice-join (x ∷ w) (suc j) (suc k) (suc l) p q = slice-join w j k l (omega arith) (omega arith)
 
 -- the cut of a span's word is a cut of the span
 pub record Split (w : Word) (j l : ℕ) (u v : Word) : Type 0 where
@@ -32,7 +35,7 @@ split-span w j l u v p r e =
     let q : j + length u ≤ l = omega arith in
     let s : length (slice j (j + length u) w) ≡ length u = length-slice j (j + length u) w (omega arith) ∙ omega arith in
     let f : u ++ v ≡ slice j (j + length u) w ++ slice (j + length u) l w = sym e ∙ sym
-    (slice-join w j (j + length u) l (omega arith) q r) in
+    (slice-join w j (j + length u) l (omega arith) q) in
     record {
       mid = j + length u;
       low = omega arith;
@@ -70,7 +73,7 @@ concatenation-obeys w o a b j k l p q =
     record {
       order = omega (arith, p .order, q .order);
       inside = q .inside;
-      word = (slice j k w, slice k l w, sym (slice-join w j k l (p .order) (q .order) (q .inside)), p .word, q .word);
+      word = (slice j k w, slice k l w, sym (slice-join w j k l (p .order) (q .order)), p .word, q .word);
     }
 
 pub obeys-concatenation : (w : Word) (o : ℕ) (a b : Tree) (j l : ℕ) → Obeys w (concatenation o a b) j l
@@ -91,5 +94,5 @@ star-more w o a j k l p q =
     record {
       order = omega (arith, p .order, q .order);
       inside = q .inside;
-      word = (suc (p .word .0), (slice j k w, slice k l w, sym (slice-join w j k l (p .order) (q .order) (q .inside)), p .word .1, q .word));
+      word = (suc (p .word .0), (slice j k w, slice k l w, sym (slice-join w j k l (p .order) (q .order)), p .word .1, q .word));
     }
