@@ -138,9 +138,9 @@ uint64_t wuz_run_job(const uint8_t *job, size_t job_len, uint8_t *out, size_t ou
 /* Rewrites a stored rule, in which a * may stand directly after a *: each run of * becomes one *, and nothing else changes. answer (5):
  * number, place, 0, 0, n: the new text has n bytes, no more than the old one. All but 21 is judged on the text as given, so a rule of 65
  * nodes is 5 however few are left.
- * out: on acceptance the first n bytes are written, the new text; what follows is not touched. Every call that reads a rule accepts it, with
- * an m no larger, the same k and the same spans, in every block of the table; the work count is no higher. A rule without such * comes back
- * as it is.
+ * out: on acceptance the first n bytes are written, the new text; what follows is not touched. No call that takes a rule refuses it for the
+ * new text, and m is no larger, k is the same, the same spans obey, in every block of the table, and the work count is no higher. A rule
+ * without such * comes back as it is.
  * Numbers: 0 to 6, 15, 20. */
 uint64_t wuz_rewrite_rule(const uint8_t *text, size_t text_len, uint8_t *out, size_t out_len, uint64_t *answer, size_t answer_len);
 

@@ -40,7 +40,8 @@ unfolding judgeFileAnswer lastFrom fileFrom isLine has judged textOf knows nameL
 last-line = refl
 
 -- "the place of every refusal in it .. is the line"; the file's numbers stand before the word's, of which the place of 8 is the offset
-places : map (λ (s : String). judgeFileAnswer (two "a" s) (bytes "a_") 7 (5 ∷ [])) ("" ∷ "a_" ∷ "<x" ∷ "<y>" ∷ "<x>[ba]" ∷ "<x>" ∷ [])
-    ≡ refusal 1 2 (5 ∷ []) ∷ refusal 3 2 (5 ∷ []) ∷ refusal 4 2 (5 ∷ []) ∷ refusal 17 2 (5 ∷ []) ∷ refusal 20 2 (5 ∷ []) ∷ refusal 8 1 (5 ∷ []) ∷ []
+places : map (λ (s : String). judgeFileAnswer (two "a" s) (bytes "a_") 7 (5 ∷ [])) ("" ∷ "a_" ∷ "<x" ∷ "<y>" ∷ "<x>[ba]" ∷ "<x>**" ∷ "<x>" ∷ [])
+    ≡ refusal 1 2 (5 ∷ []) ∷ refusal 3 2 (5 ∷ []) ∷ refusal 4 2 (5 ∷ []) ∷ refusal 17 2 (5 ∷ []) ∷ refusal 20 2 (5 ∷ []) ∷ refusal 21 2 (5 ∷ [])
+    ∷ refusal 8 1 (5 ∷ []) ∷ []
 unfolding judgeFileAnswer lastFrom fileFrom isLine has judged textOf knows nameLength piecesFrom shapeOf filled isLower matchAnswer fitAnswer leading isEvent scanFrom treeOf parse leafAt unorderedFrom doubleFrom
 places = refl

@@ -19,7 +19,7 @@ use Rattle.rule_line.specs.Lines.{Line}
 use Rattle.rule_file.specs.FileMeaning.{Passed}
 use Rattle.rule_file.specs.FileComputed.{FileRead, refused, passed, fileRead, answered, fileAnswer}
 use Rattle.rule_file.proofs.FileRows.{refused-file, line-fits}
-use Rattle.rule_file.proofs.Replacement.{line-reads, line-ordered, line-single}
+use Rattle.rule_file.proofs.Replacement.{line-reads, line-ordered, line-no-double}
 use Rattle.verdict.specs.Verdicts as verdict
 use Rattle.work.specs.Walk.{Collection}
 use Rattle.work.specs.SizeOf.{SizeOf}
@@ -103,7 +103,7 @@ as-replaced file w limit old ls l p h =
       legal = record { fits = (start-some (l .text) (begun r), h); listed = read-listed r };
       reads = r;
       ordered = line-ordered p l (last-in ls l);
-      single = line-single p l (last-in ls l);
+      no-double = line-no-double p l (last-in ls l);
       nodes = f .0;
       special = f .1;
     } in

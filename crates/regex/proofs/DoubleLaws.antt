@@ -2,7 +2,7 @@
 use Prim.Native.Nat.{ℕ, zero, suc, _+_, _≤_, _<_}
 use native.Mathlib.Omega.{arith}
 use native.Mathlib.Decide.{decLt}
-use mathlib.Core.Path.{_≡_, refl, sym, ap, subst, _∙_}
+use mathlib.Core.Path.{_≡_, refl, sym, ap, _∙_}
 use mathlib.Core.Bool.{Bool, true, false, _&&_, true≢false}
 use mathlib.Core.List.{List, [], _∷_, _++_}
 use lib.Dec.{eqb}
@@ -38,8 +38,8 @@ after-other p b h = rw (ne-eqb p 42 h)
 -- the star at n, if n is in the text, is the first one; p is the byte before the text
 record Found (p : ℕ) (s : List ℕ) (n : ℕ) : Type 0 where
   within : n ≤ length s
-  there : n < length s → Double (p ∷ s) n
-  before : (i : ℕ) → i < n → Double (p ∷ s) i → ⊥
+  there : n < length s → Double (p ∷ s) (suc n)
+  before : (i : ℕ) → i < n → Double (p ∷ s) (suc i) → ⊥
 
 found-here : (p b : ℕ) (s : List ℕ) → doubles p b ≡ true → Found p (b ∷ s) 0
 found-here p b s e = record { within = omega arith; there = λ h. doubles-stars p b e; before = λ i h. absurd (omega arith) }
@@ -47,7 +47,7 @@ found-here p b s e = record { within = omega arith; there = λ h. doubles-stars 
 found-later : (p b : ℕ) (s : List ℕ) (n : ℕ) → doubles p b ≡ false → Found b s n → Found p (b ∷ s) (suc n)
 found-later p b s n e x = record { within = omega (arith, x .within); there = λ h. x .there (omega arith); before = go }
   where
-    go : (i : ℕ) → i < suc n → Double (p ∷ b ∷ s) i → ⊥
+    go : (i : ℕ) → i < suc n → Double (p ∷ b ∷ s) (suc i) → ⊥
     go zero h d = doubles-not p b e (d .0) (d .1)
     go (suc i) h d = x .before i (omega arith) d
 
@@ -63,20 +63,31 @@ outside [] (suc i) h e = omega arith
 outside (b ∷ s) zero h e = omega arith
 outside (b ∷ s) (suc i) h e = outside s i (omega arith) e
 
+pub double-inside : (s : List ℕ) (n : ℕ) → Double s n → n < length s
+double-inside s zero d = absurd d
+double-inside s (suc i) d = go (decLt (suc i) (length s))
+  where
+    go : Dec (suc i < length s) → suc i < length s
+    go (yes h) = h
+    go (no h) = absurd (outside s (suc i) (omega arith) (d .1))
+
+-- ---- the byte 0 before a text makes no star of its own
+front : (s : List ℕ) (n : ℕ) → Double s n → Double (0 ∷ s) (suc n)
+front s zero d = absurd d
+front s (suc i) d = d
+
+behind-front : (s : List ℕ) (n : ℕ) → Double (0 ∷ s) (suc n) → Double s n
+behind-front s zero d = omega (arith, d .0)
+behind-front s (suc i) d = d
+
 -- ---- the first one, or none
 pub first-double : (s : List ℕ) → doubleAt s < length s → FirstDouble s (doubleAt s)
-first-double s h = go (doubleAt s) (found 0 s) h
-  where
-    go : (n : ℕ) → Found 0 s n → n < length s → FirstDouble s n
-    go zero x l = absurd (omega (arith, x .there l .0))
-    go (suc n) x l = record { before = n; place = refl; double = x .there l; first = λ i m d. x .before (suc i) (omega arith) d }
+first-double s h =
+    let x = found 0 s in
+    record { there = behind-front s (doubleAt s) (x .there h); first = λ j l d. x .before j l (front s j d) }
 
 pub no-double : (s : List ℕ) → length s ≤ doubleAt s → NoDouble s
-no-double s e i d = go (decLt (suc i) (length s))
-  where
-    go : Dec (suc i < length s) → ⊥
-    go (yes h) = found 0 s .before (suc i) (omega arith) d
-    go (no h) = outside s (suc i) (omega arith) (d .1)
+no-double s e n d = found 0 s .before n (omega (arith, double-inside s n d)) (front s n d)
 
 -- ---- and no other number is
 lowest : {p : ℕ} {s : List ℕ} {m n : ℕ} → Found p s m → Found p s n → m ≤ n
@@ -86,51 +97,43 @@ lowest {m = m} {n = n} x y = go (decLt n m)
     go (yes h) = absurd (x .before n h (y .there (omega (arith, x .within))))
     go (no h) = omega arith
 
-pub double-inside : {s : List ℕ} {n : ℕ} → FirstDouble s n → n < length s
-double-inside {s} {n} f = go (decLt n (length s))
-  where
-    go : Dec (n < length s) → n < length s
-    go (yes h) = h
-    go (no h) = absurd (outside s n (omega arith) (subst (λ (k : ℕ). getD s k 0 ≡ 42) (sym (f .place)) (f .double .1)))
-
 pub first-is : {s : List ℕ} {n : ℕ} → FirstDouble s n → doubleAt s ≡ n
 first-is {s} {n} f =
-    let y : Found 0 s n = record { within = omega (arith, double-inside f); there = λ h. there; before = before } in
+    let y : Found 0 s n = record {
+      within = omega (arith, double-inside s n (f .there));
+      there = λ h. front s n (f .there);
+      before = λ i h d. f .first i h (behind-front s i d);
+    } in
     let a = lowest (found 0 s) y in
     let b = lowest y (found 0 s) in
     omega arith
-  where
-    there : Double (0 ∷ s) n
-    there = subst (λ (k : ℕ). Double (0 ∷ s) k) (sym (f .place)) (f .double)
-
-    before : (i : ℕ) → i < n → Double (0 ∷ s) i → ⊥
-    before zero h d = omega (arith, d .0)
-    before (suc i) h d = f .first i (omega (arith, f .place)) d
 
 pub none-is : (s : List ℕ) → NoDouble s → length s ≤ doubleAt s
 none-is s h = go (decLt (doubleAt s) (length s))
   where
     go : Dec (doubleAt s < length s) → length s ≤ doubleAt s
-    go (yes l) = let f = first-double s l in absurd (h (f .before) (f .double))
+    go (yes l) = absurd (h (doubleAt s) (first-double s l .there))
     go (no l) = omega arith
 
 -- ---- parts of a text
-pub single-behind : (p : ℕ) (s : List ℕ) → NoDouble (p ∷ s) → NoDouble s
-single-behind p s h i d = h (suc i) d
+pub no-double-behind : (p : ℕ) (s : List ℕ) → NoDouble (p ∷ s) → NoDouble s
+no-double-behind p s h zero d = d
+no-double-behind p s h (suc i) d = h (suc (suc i)) d
 
-pub single-with : (p : ℕ) (s : List ℕ) → (p ≡ 42 → getD s 0 0 ≡ 42 → ⊥) → NoDouble s → NoDouble (p ∷ s)
-single-with p s h g zero d = h (d .0) (d .1)
-single-with p s h g (suc i) d = g i d
+pub no-double-with : (p : ℕ) (s : List ℕ) → (p ≡ 42 → getD s 0 0 ≡ 42 → ⊥) → NoDouble s → NoDouble (p ∷ s)
+no-double-with p s h g zero d = d
+no-double-with p s h g (suc zero) d = h (d .0) (d .1)
+no-double-with p s h g (suc (suc i)) d = g (suc i) d
 
-pub single-end : (x y : List ℕ) → NoDouble (x ++ y) → NoDouble y
-single-end [] y h = h
-single-end (b ∷ x) y h = single-end x y (single-behind b (x ++ y) h)
+pub no-double-end : (x y : List ℕ) → NoDouble (x ++ y) → NoDouble y
+no-double-end [] y h = h
+no-double-end (b ∷ x) y h = no-double-end x y (no-double-behind b (x ++ y) h)
 
-pub single-joined : (x y : List ℕ) → (getD y 0 0 ≡ 42 → ⊥) → NoDouble x → NoDouble y → NoDouble (x ++ y)
-single-joined [] y n h g = g
-single-joined (b ∷ []) y n h g = single-with b y (λ e. n) g
-single-joined (b ∷ c ∷ x) y n h g =
-    single-with b (c ∷ x ++ y) (λ e f. h 0 (e, f)) (single-joined (c ∷ x) y n (single-behind b (c ∷ x) h) g)
+pub no-double-joined : (x y : List ℕ) → (getD y 0 0 ≡ 42 → ⊥) → NoDouble x → NoDouble y → NoDouble (x ++ y)
+no-double-joined [] y n h g = g
+no-double-joined (b ∷ []) y n h g = no-double-with b y (λ e. n) g
+no-double-joined (b ∷ c ∷ x) y n h g =
+    no-double-with b (c ∷ x ++ y) (λ e f. h 1 (e, f)) (no-double-joined (c ∷ x) y n (no-double-behind b (c ∷ x) h) g)
 
 -- ---- from an offset on
 pub double-on : (s : List ℕ) (i p : ℕ) → i < length s → doubles p (getD s i 0) ≡ false

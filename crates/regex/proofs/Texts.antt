@@ -1,8 +1,8 @@
 -- Facts of the texts that the grammar reads. Assumes nothing.
 use Prim.Native.Nat.{ℕ, _<_}
 use native.Mathlib.Omega.{arith}
-use mathlib.Core.Path.{_≡_, refl, sym, ap, _∙_}
-use mathlib.Core.List.{List, [], _∷_, _++_, append-assoc}
+use mathlib.Core.Path.{_≡_, refl, sym, ap, subst, _∙_}
+use mathlib.Core.List.{List, [], _∷_, _++_, append-assoc, append-nil}
 use mathlib.Core.Bool.{true, false, true≢false}
 use lib.ListN.{length, getD}
 use lib.Dec.{T, eqb}
@@ -48,3 +48,7 @@ start-not b c h g = ne-eqb b c (λ e. true≢false (sym h ∙ ap isStart e ∙ g
 pub start-some : (s : List ℕ) → isStart (getD s 0 0) ≡ true → 0 < length s
 start-some [] h = absurd (true≢false (sym h ∙ reserved-foreign 0 tt))
 start-some (b ∷ s) h = omega arith
+
+-- a text that is read has a byte
+pub nonempty : {l : Level} {o : ℕ} {u : List ℕ} {t : Tree} → Reads l o u t → 0 < length u
+nonempty {u = u} r = start-some u (subst (λ (s : List ℕ). isStart (getD s 0 0) ≡ true) (append-nil u) (begins r []))

@@ -12,8 +12,9 @@ pub data Level : Type 0 where
   Alt Conj Seq Pre Post Atom : Level
 
 -- `Reads l o u t`: the text u, whose first byte has the offset o, is read at the level l as the tree t.
--- 01: "The three that take two sides group from the left. Several `*` and several `!` may follow each other" (02 f) refuses such stars by a
--- number of their own, and "number 4 is judged as before"); "parentheses are none" (no nodes); "concatenation has the offset at which its right side begins, an opening parenthesis included".
+-- 01: "The three that take two sides group from the left. Several `*` and several `!` may follow each other";
+-- "parentheses are none" (no nodes); "concatenation has the offset at which its right side begins, an opening parenthesis included".
+-- 02 f) refuses several `*` by 21 and not here: "number 4 is judged as before".
 pub data Reads : Level → ℕ → List ℕ → Tree → Type 0 where
   -- Alt = Conj, Alt "|" Conj
   alt-conj : {o : ℕ} {u : List ℕ} {t : Tree} → Reads Conj o u t → Reads Alt o u t

@@ -1,15 +1,23 @@
 -- The rewriter on small texts, by computation. Assumes nothing.
 use Prim.Native.Nat.{ℕ}
+use Prim.Native.String.{String}
 use mathlib.Core.Path.{_≡_, refl}
 use mathlib.Core.List.{List, [], _∷_, _++_, map}
 use lib.ListN.{replicate}
 use Rattle.event.specs.Event.{isEvent}
 use Rattle.event.specs.Leading.{leading}
+use Rattle.event.specs.LetterSets.{holds, bitOf}
 use Rattle.event.specs.Text.{bytes}
+use Rattle.bits.specs.Bit.{hasBit}
+use Rattle.regex.specs.Accept.{accepts}
+use Rattle.regex.specs.Leaves.{leafAt}
+use Rattle.regex.specs.Parse.{parse}
+use Rattle.regex.specs.TreeOf.{treeOf}
+use Rattle.work.specs.Count.{fullCount}
 use Rattle.regex.specs.OrderComputed.{unorderedFrom}
 use Rattle.regex.specs.Scan.{scanFrom}
 use Rattle.rule.specs.RuleComputed.{sentenceOutcome}
-use Rattle.rewrite.specs.Rewritten.{singled}
+use Rattle.rewrite.specs.Rewritten.{squeezedAfter}
 use Rattle.rewrite.specs.RewriteComputed.{rewriteAnswer}
 
 -- a text and a buffer, with number, place, n and the buffer after it
@@ -32,5 +40,10 @@ worked : Case → Case
 worked c = let a = rewriteAnswer (c .0) (c .1) in (c .0, c .1, a .number, a .place, a .n, a .out)
 
 edges : map worked cases ≡ cases
-unfolding rewriteAnswer sentenceOutcome leading isEvent scanFrom unorderedFrom singled cases worked
+unfolding rewriteAnswer sentenceOutcome leading isEvent scanFrom unorderedFrom squeezedAfter cases worked
 edges = refl
+
+-- "Its count may be lower": `a**` on the word aa, and its rewritten text
+lower-count : map (λ (s : String). fullCount (bytes "aa") (treeOf (bytes s))) ("a**" ∷ "a*" ∷ []) ≡ 30 ∷ 18 ∷ []
+unfolding fullCount accepts holds hasBit bitOf treeOf parse leafAt isEvent
+lower-count = refl

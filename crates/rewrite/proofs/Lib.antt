@@ -8,6 +8,6 @@ pub mod SameLaws
 pub mod Stays
 pub mod Counts
 pub mod Rewrites
-pub mod Carried
+pub mod RewrittenRules
 -- Turns of the loops.
 mod Turns

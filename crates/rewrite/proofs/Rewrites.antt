@@ -15,12 +15,12 @@ use Rattle.regex.specs.Grammar.{pre-post, pre-bang, post-atom, post-star, atom-
 use Rattle.regex.proofs.OneReading.{one-reading}
 use Rattle.regex.proofs.DoubleLaws.{not-doubled}
 use Rattle.regex.proofs.Texts.{begins, start-not}
-use Rattle.rewrite.specs.Rewritten.{singled, rewritten}
+use Rattle.rewrite.specs.Rewritten.{squeezedAfter, rewritten}
 use Rattle.rewrite.specs.Same.{SameLang, Same}
-use Rattle.rewrite.proofs.StarLaws.{ends, ends-snoc, rewritten-append, rewritten-sign, rewritten-star, rewritten-again, singled-any, singled-kept}
+use Rattle.rewrite.proofs.StarLaws.{ends, ends-snoc, rewritten-append, rewritten-sign, rewritten-star, rewritten-again, squeezed-any, squeezed-kept}
 use Rattle.rewrite.proofs.SameLaws.{same-empty, same-epsilon, same-letter, same-union, same-intersection, same-concatenation}
 use Rattle.rewrite.proofs.SameLaws.{same-complement, same-star, same-again}
-use Rattle.rewrite.proofs.Counts.{Lighter, light-leaf, light-union, light-intersection, light-concatenation, light-complement}
+use Rattle.rewrite.proofs.Counts.{NoMorePlaces, light-leaf, light-union, light-intersection, light-concatenation, light-complement}
 use Rattle.rewrite.proofs.Counts.{light-star, light-again}
 
 -- the rewritten text of u, at the offset n, is read at the same level, as a tree that can stand for t
@@ -28,7 +28,7 @@ pub record Rewrites (l : Level) (n : ℕ) (u : List ℕ) (t : Tree) : Type 0 whe
   pub tree : Tree
   pub reads : Reads l n (rewritten u) tree
   pub same : Same t tree
-  pub light : Lighter t tree  -- no more places
+  pub light : NoMorePlaces t tree  -- no more places
 
 -- a text that is read begins with no star
 starless : {l : Level} {o : ℕ} {u : List ℕ} {t : Tree} → Reads l o u t → (x : List ℕ) → getD (u ++ x) 0 0 ≡ 42 → ⊥
@@ -66,36 +66,36 @@ one-star {u} {t} o n (inl h) x =
 one-star {u} {t} o n (inr h) x =
     let (q, r, e) = h .1 in
     let y : Same (star q r) (x .tree) = subst (λ (v : Tree). Same v (x .tree)) e (x .same) in
-    let z : Lighter (star q r) (x .tree) = subst (λ (v : Tree). Lighter v (x .tree)) e (x .light) in
+    let z : NoMorePlaces (star q r) (x .tree) = subst (λ (v : Tree). NoMorePlaces v (x .tree)) e (x .light) in
     record {
       tree = x .tree;
       reads = subst (λ (s : List ℕ). Reads Post n s (x .tree)) (sym (rewritten-again u (h .0))) (x .reads);
       same = subst (λ (v : Tree). Same (star o v) (x .tree)) (sym e) (same-again o q r y);
-      light = subst (λ (v : Tree). Lighter (star o v) (x .tree)) (sym e) (light-again o q r z);
+      light = subst (λ (v : Tree). NoMorePlaces (star o v) (x .tree)) (sym e) (light-again o q r z);
     }
 
 -- ---- the theorem, at every level and offset
 -- the same with the text written another way
-text : {l : Level} {n : ℕ} {s : List ℕ} {u : List ℕ} {t v : Tree} → rewritten u ≡ s → Reads l n s v → Same t v → Lighter t v → Rewrites l n u t
+text : {l : Level} {n : ℕ} {s : List ℕ} {u : List ℕ} {t v : Tree} → rewritten u ≡ s → Reads l n s v → Same t v → NoMorePlaces t v → Rewrites l n u t
 text {l} {n} {s} {u} {t} {v} e r q g = record { tree = v; reads = subst (λ (x : List ℕ). Reads l n x v) (sym e) r; same = q; light = g }
 
 byte : (b : ℕ) → (b ≡ 42 → ⊥) → rewritten (b ∷ []) ≡ b ∷ []
-unfolding singled
-byte b h = singled-kept 0 b [] (not-doubled 0 b h)
+unfolding squeezedAfter
+byte b h = squeezed-kept 0 b [] (not-doubled 0 b h)
 
-letters-kept : (p : ℕ) (u v : List ℕ) → Events u → (getD v 0 0 ≡ 42 → ⊥) → singled p (u ++ v) ≡ u ++ singled 0 v
-letters-kept p [] v h n = singled-any p 0 v n
+letters-kept : (p : ℕ) (u v : List ℕ) → Events u → (getD v 0 0 ≡ 42 → ⊥) → squeezedAfter p (u ++ v) ≡ u ++ squeezedAfter 0 v
+letters-kept p [] v h n = squeezed-any p 0 v n
 letters-kept p (b ∷ u) v h n =
-    singled-kept p b (u ++ v) (not-doubled p b (event-apart b 42 (h .0) tt)) ∙ ap (λ (x : List ℕ). b ∷ x) (letters-kept b u v (h .1) n)
+    squeezed-kept p b (u ++ v) (not-doubled p b (event-apart b 42 (h .0) tt)) ∙ ap (λ (x : List ℕ). b ∷ x) (letters-kept b u v (h .1) n)
 
 set-kept : (u : List ℕ) → Events u → rewritten (91 ∷ u ++ 93 ∷ []) ≡ 91 ∷ u ++ 93 ∷ []
-unfolding singled
+unfolding squeezedAfter
 set-kept u h =
-    singled-kept 0 91 (u ++ 93 ∷ []) (not-doubled 0 91 (λ e. omega arith))
+    squeezed-kept 0 91 (u ++ 93 ∷ []) (not-doubled 0 91 (λ e. omega arith))
     ∙ ap (λ (x : List ℕ). 91 ∷ x) (letters-kept 91 u (93 ∷ []) h (λ e. omega arith))
 
 pub rewrites : {l : Level} {o : ℕ} {u : List ℕ} {t : Tree} → Reads l o u t → (n : ℕ) → Rewrites l n u t
-unfolding singled
+unfolding squeezedAfter
 rewrites (alt-conj r) n = let x = rewrites r n in record { tree = x .tree; reads = alt-conj (x .reads); same = x .same; light = x .light }
 rewrites (alt-bar {u = u} {v = v} r q) n =
     let x = rewrites r n in

@@ -35,8 +35,8 @@ flatten L (suc i) w h =
     let (j, r) = powers L n (hv .0) u v q (hv .1) in
     (j, subst (Power L j) (sym e) r)
 
-pub star-star : (o q : ℕ) (t : Tree) → SameLang (star o (star q t)) (star q t)
-star-star o q t w = (λ h. flatten (Lang t) (h .0) w (h .1), λ h. (1, ([], w, refl, refl, h)))
+pub star-idempotent : (o q : ℕ) (t : Tree) → SameLang (star o (star q t)) (star q t)
+star-idempotent o q t w = (λ h. flatten (Lang t) (h .0) w (h .1), λ h. (1, ([], w, refl, refl, h)))
 
 -- ---- languages
 concat-map : (L L′ M M′ : Word → Type 0) → ((u : Word) → L u → L′ u) → ((u : Word) → M u → M′ u) → (w : Word) → Concat L M w → Concat L′ M′ w
@@ -122,7 +122,7 @@ module _ (o n : ℕ) {a a′ : Tree} (p : Same a a′) where
 -- a star upon a star falls away
 pub same-again : (o q : ℕ) (t : Tree) {u : Tree} → Same (star q t) u → Same (star o (star q t)) u
 same-again o q t p = record {
-  lang = λ w. (λ h. p .lang w .0 (star-star o q t w .0 h), λ h. star-star o q t w .1 (p .lang w .1 h));
+  lang = λ w. (λ h. p .lang w .0 (star-idempotent o q t w .0 h), λ h. star-idempotent o q t w .1 (p .lang w .1 h));
   parts = p .parts;
   nodes = omega (arith, p .nodes);
   special = p .special;

@@ -11,23 +11,23 @@ use lib.Seq.{sets, sets-eq}
 use borrow.Author.Tests.{not-true, not-false}
 use Rattle.event.proofs.Tails.{rest-at}
 use Rattle.regex.specs.StarsComputed.{doubles}
-use Rattle.rewrite.specs.Rewritten.{singled, rewritten}
-use Rattle.rewrite.proofs.StarLaws.{singled-left, singled-kept}
+use Rattle.rewrite.specs.Rewritten.{squeezedAfter, rewritten}
+use Rattle.rewrite.proofs.StarLaws.{squeezed-left, squeezed-kept}
 
 -- what is still to come of the new text
 abbrev pub rest : List ℕ → ℕ → ℕ → List ℕ
-rest s p i = singled p (drop i s)
+rest s p i = squeezedAfter p (drop i s)
 
 pub rest-left : (s : List ℕ) (p i : ℕ) → i < length s → doubles p (getD s i 0) ≡ true → rest s p i ≡ rest s (getD s i 0) (i + 1)
-rest-left s p i h e = ap (singled p) (rest-at s i h) ∙ singled-left p (getD s i 0) (drop (i + 1) s) e
+rest-left s p i h e = ap (squeezedAfter p) (rest-at s i h) ∙ squeezed-left p (getD s i 0) (drop (i + 1) s) e
 
 pub rest-kept : (s : List ℕ) (p i : ℕ) → i < length s → doubles p (getD s i 0) ≡ false
     → rest s p i ≡ getD s i 0 ∷ rest s (getD s i 0) (i + 1)
-rest-kept s p i h e = ap (singled p) (rest-at s i h) ∙ singled-kept p (getD s i 0) (drop (i + 1) s) e
+rest-kept s p i h e = ap (squeezedAfter p) (rest-at s i h) ∙ squeezed-kept p (getD s i 0) (drop (i + 1) s) e
 
 pub rest-end : (s : List ℕ) (p i : ℕ) → length s ≤ i → rest s p i ≡ []
-unfolding singled
-rest-end s p i h = ap (singled p) (drop-of-length-le s h)
+unfolding squeezedAfter
+rest-end s p i h = ap (squeezedAfter p) (drop-of-length-le s h)
 
 -- so much is counted
 pub record Counting (s : List ℕ) (p n i : ℕ) : Type 0 where

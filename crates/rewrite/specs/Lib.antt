@@ -5,3 +5,5 @@ pub mod Same
 pub mod RewriteAnswer
 pub mod RewriteMeaning
 pub mod RewriteComputed
+-- What stays when a rule is rewritten.
+pub mod RewrittenRule

@@ -18,10 +18,10 @@ abbrev pub keepUnless : Bool → ℕ → List ℕ → List ℕ
 keepUnless t b r = cond t r (b ∷ r)
 
 -- the text without its stars directly after a star; p is the byte before it
-unfoldable pub singled : ℕ → List ℕ → List ℕ
-singled p [] = []
-singled p (b ∷ s) = keepUnless (doubles p b) b (singled b s)
+unfoldable pub squeezedAfter : ℕ → List ℕ → List ℕ
+squeezedAfter p [] = []
+squeezedAfter p (b ∷ s) = keepUnless (doubles p b) b (squeezedAfter b s)
 
 -- before a text stands no star
 abbrev pub rewritten : List ℕ → List ℕ
-rewritten s = singled 0 s
+rewritten s = squeezedAfter 0 s

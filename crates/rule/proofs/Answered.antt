@@ -28,9 +28,9 @@ use Rattle.regex.proofs.UnorderedLaws.{unordered-first, ordered-all, first-is, 
 use Rattle.verdict.specs.Verdicts.{refused}
 use Rattle.verdict.specs.declared.Verdict.{Verdict}
 use Rattle.rule.specs.RuleAnswer.{RuleAnswer, isRuleByte, refusal, acceptance, values, nodesFor, ruleValues, refusalVerdict, unused, told}
-use Rattle.rule.specs.RuleComputed.{foreignAt, ordered, afterScan, sentenceOutcome, single, sizeOutcome, sized, nodesWith, ruleAnswer}
-use Rattle.rule.specs.RuleMeaning.{FitsLength, Legal, Fit, Unfit, empty-text, long-text, foreign-byte, no-sentence, unordered-set}
-use Rattle.rule.specs.RuleMeaning.{RuleMeaning, unfit, double-star, many-nodes, many-specials, accepted}
+use Rattle.rule.specs.RuleComputed.{foreignAt, ordered, afterScan, sentenceOutcome, noDouble, sizeOutcome, sized, nodesWith, ruleAnswer}
+use Rattle.rule.specs.RuleMeaning.{FitsLength, Legal, WellFormed, IllFormed, empty-text, long-text, foreign-byte, no-sentence, unordered-set}
+use Rattle.rule.specs.RuleMeaning.{RuleMeaning, ill-formed, double-star, many-nodes, many-specials, accepted}
 use Rattle.rule.specs.Reader.{Readable}
 use Rattle.rule.specs.declared.Answer.{Answer}
 use Rattle.rule.specs.declared.Outcome.{Outcome}
@@ -40,23 +40,23 @@ use Rattle.rule.specs.declared.Refusal.the-variants.{EmptyText, LongText
 
 -- ---- the checks 1 to 4 and 20
 -- m and k are those of the tree that the text is read as
-pub record FitOf (s : List ℕ) (m k : ℕ) : Type 0 where
+pub record WellFormedOf (s : List ℕ) (m k : ℕ) : Type 0 where
   pub tree : Tree
-  pub fit : Fit s tree
+  pub formed : WellFormed s tree
   pub nodes : m ≡ size tree
   pub special : k ≡ specials tree
 
 -- what an outcome says of the text
 abbrev pub Says : List ℕ → Outcome → Type 0
-Says s (Accepted m k) = FitOf s m k
-Says s (Refused r) = Unfit s (refusalVerdict r .number) (refusalVerdict r .place)
+Says s (Accepted m k) = WellFormedOf s m k
+Says s (Refused r) = IllFormed s (refusalVerdict r .number) (refusalVerdict r .place)
 
 ordered-says : (s : List ℕ) → Legal s → (m k : ℕ) → SentenceOf s m k → Says s (ordered s m k)
 ordered-says s a m k w =
     choose (Says s) (ltb (unorderedAt s) (length s)) (λ e. unordered-set a (w .reads) (unordered-first s (ltb-true _ _ e)))
     (λ e. record {
       tree = w .tree;
-      fit = record { legal = a; reads = w .reads; ordered = ordered-all s (ltb-false _ _ e) };
+      formed = record { legal = a; reads = w .reads; ordered = ordered-all s (ltb-false _ _ e) };
       nodes = w .nodes;
       special = w .special;
     })
@@ -134,8 +134,8 @@ broken-is s n none l (Broken j) w =
     ap (λ (i : ℕ). Refused (NoSentence i)) e
 
 -- a text that fits is accepted
-pub fit-is : {s : List ℕ} {t : Tree} → Fit s t → sentenceOutcome s ≡ Accepted (size t) (specials t)
-fit-is {s} f = of-reading (f .legal) (f .reads) ∙ simp (le-ltb (unorderedAt s) (length s) (ordered-is (f .ordered)))
+pub well-formed-is : {s : List ℕ} {t : Tree} → WellFormed s t → sentenceOutcome s ≡ Accepted (size t) (specials t)
+well-formed-is {s} f = of-reading (f .legal) (f .reads) ∙ simp (le-ltb (unorderedAt s) (length s) (ordered-is (f .ordered)))
 
 -- and one that does not is refused with its number and place
 pub record RefusedAs (s : List ℕ) (n p : ℕ) : Type 0 where
@@ -143,15 +143,15 @@ pub record RefusedAs (s : List ℕ) (n p : ℕ) : Type 0 where
   pub outcome : sentenceOutcome s ≡ Refused why
   pub verdict : refusalVerdict why ≡ refused n p
 
-pub unfit-is : {s : List ℕ} {n p : ℕ} → Unfit s n p → RefusedAs s n p
-unfit-is {s} (empty-text e) = record { why = EmptyText; outcome = at-empty s e; verdict = refl }
-unfit-is {s} (long-text h) = record { why = LongText; outcome = at-long s h; verdict = refl }
-unfit-is {s} (foreign-byte {n = n} a h l b) =
+pub ill-formed-is : {s : List ℕ} {n p : ℕ} → IllFormed s n p → RefusedAs s n p
+ill-formed-is {s} (empty-text e) = record { why = EmptyText; outcome = at-empty s e; verdict = refl }
+ill-formed-is {s} (long-text h) = record { why = LongText; outcome = at-long s h; verdict = refl }
+ill-formed-is {s} (foreign-byte {n = n} a h l b) =
     let f = leading-is isRuleByte s n (record { within = omega arith; before = l; there = λ h. b }) in
     record { why = ForeignByte n; outcome = at-foreign s a (omega arith) ∙ ap (λ (i : ℕ). Refused (ForeignByte i)) f; verdict = refl }
-unfit-is {s} (no-sentence {n = n} a none l) =
+ill-formed-is {s} (no-sentence {n = n} a none l) =
     record { why = NoSentence n; outcome = past s a ∙ broken-is s n none l (scanned s) (scan-right s); verdict = refl }
-unfit-is {s} (unordered-set {n = n} a r f) =
+ill-formed-is {s} (unordered-set {n = n} a r f) =
     let l = lt-ltb (unorderedAt s) (length s) (omega (arith, first-is f, inside-text s n (f .there))) in
     record { why = UnorderedSet n; outcome = of-reading a r ∙ simp l (ap (λ (i : ℕ). Refused (UnorderedSet i)) (first-is f)); verdict = refl }
 
@@ -173,7 +173,7 @@ refused-values ManySpecials = refl
 accepted-answer : {s : List ℕ} {t : Tree} → Reads Alt 0 s t → answerTo s (Accepted (size t) (specials t)) ≡ acceptance t
 accepted-answer {t = t} r = ap (λ (x : Tree). values 0 0 (size t) (specials t) (nodesFor x)) (tree-is r)
 
-size-means : (s : List ℕ) (t : Tree) → Fit s t → NoDouble s → RuleMeaning s (answerTo s (sizeOutcome (size t) (specials t)))
+size-means : (s : List ℕ) (t : Tree) → WellFormed s t → NoDouble s → RuleMeaning s (answerTo s (sizeOutcome (size t) (specials t)))
 size-means s t f d =
     let Q : Outcome → Type 0 = λ o. RuleMeaning s (answerTo s o) in
     choose Q (ltb 64 (size t)) (λ e. many-nodes f d (ltb-true _ _ e))
@@ -183,21 +183,21 @@ size-means s t f d =
       legal = f .legal;
       reads = f .reads;
       ordered = f .ordered;
-      single = d;
+      no-double = d;
       nodes = ltb-false _ _ e;
       special = ltb-false _ _ g;
     }))))
 
-single-means : (s : List ℕ) (t : Tree) → Fit s t → RuleMeaning s (answerTo s (sized (single s (Accepted (size t) (specials t)))))
-single-means s t f =
+no-double-means : (s : List ℕ) (t : Tree) → WellFormed s t → RuleMeaning s (answerTo s (sized (noDouble s (Accepted (size t) (specials t)))))
+no-double-means s t f =
     choose (λ (o : Outcome). RuleMeaning s (answerTo s (sized o))) (ltb (doubleAt s) (length s)) (λ e. double-star f (first-double s (ltb-true _ _ e)))
     (λ e. size-means s t f (no-double s (ltb-false _ _ e)))
 
-outcome-means : (s : List ℕ) (o : Outcome) → Says s o → RuleMeaning s (answerTo s (sized (single s o)))
+outcome-means : (s : List ℕ) (o : Outcome) → Says s o → RuleMeaning s (answerTo s (sized (noDouble s o)))
 outcome-means s (Accepted m k) w =
-    subst₂ (λ (i j : ℕ). RuleMeaning s (answerTo s (sized (single s (Accepted i j))))) (sym (w .nodes)) (sym (w .special))
-    (single-means s (w .tree) (w .fit))
-outcome-means s (Refused r) w = subst (RuleMeaning s) (sym (refused-values r)) (unfit w)
+    subst₂ (λ (i j : ℕ). RuleMeaning s (answerTo s (sized (noDouble s (Accepted i j))))) (sym (w .nodes)) (sym (w .special))
+    (no-double-means s (w .tree) (w .formed))
+outcome-means s (Refused r) w = subst (RuleMeaning s) (sym (refused-values r)) (ill-formed w)
 
 pub answer-means : (s : List ℕ) → RuleMeaning s (ruleAnswer s)
 unfolding ruleAnswer
@@ -205,25 +205,25 @@ answer-means s = outcome-means s (sentenceOutcome s) (sentence-says s)
 
 -- ---- and no other answer does
 -- what the answer is, once the outcome of the first checks is known
-pub answer-after : (s : List ℕ) {o : Outcome} → sentenceOutcome s ≡ o → ruleAnswer s ≡ answerTo s (sized (single s o))
+pub answer-after : (s : List ℕ) {o : Outcome} → sentenceOutcome s ≡ o → ruleAnswer s ≡ answerTo s (sized (noDouble s o))
 unfolding ruleAnswer
-answer-after s e = ap (λ (o : Outcome). answerTo s (sized (single s o))) e
+answer-after s e = ap (λ (o : Outcome). answerTo s (sized (noDouble s o))) e
 
-of-single : {s : List ℕ} {t : Tree} → Fit s t → NoDouble s → ruleAnswer s ≡ answerTo s (sizeOutcome (size t) (specials t))
-of-single {s} f d = answer-after s (fit-is f) ∙ simp (le-ltb (doubleAt s) (length s) (none-is s d))
+of-no-double : {s : List ℕ} {t : Tree} → WellFormed s t → NoDouble s → ruleAnswer s ≡ answerTo s (sizeOutcome (size t) (specials t))
+of-no-double {s} f d = answer-after s (well-formed-is f) ∙ simp (le-ltb (doubleAt s) (length s) (none-is s d))
 
 pub answer-is : {s : List ℕ} {a : RuleAnswer} → RuleMeaning s a → a ≡ ruleAnswer s
-answer-is {s} (unfit u) =
-    let x = unfit-is u in
+answer-is {s} (ill-formed u) =
+    let x = ill-formed-is u in
     sym (answer-after s (x .outcome) ∙ ap (λ (v : Verdict). told v 0 0 (unused 64)) (x .verdict))
 answer-is {s} (double-star {n = n} f d) =
     let e = double-is d in
-    sym (answer-after s (fit-is f) ∙ simp (lt-ltb (doubleAt s) (length s) (omega (arith, double-inside d))) (ap (refusal 21) e))
-answer-is {s} (many-nodes {t = t} f d h) = sym (of-single f d ∙ simp (lt-ltb 64 (size t) h))
-answer-is {s} (many-specials {t = t} f d h g) = sym (of-single f d ∙ simp (le-ltb 64 (size t) h, lt-ltb 7 (specials t) g))
+    sym (answer-after s (well-formed-is f) ∙ simp (lt-ltb (doubleAt s) (length s) (omega (arith, double-inside s n (d .there)))) (ap (refusal 21) e))
+answer-is {s} (many-nodes {t = t} f d h) = sym (of-no-double f d ∙ simp (lt-ltb 64 (size t) h))
+answer-is {s} (many-specials {t = t} f d h g) = sym (of-no-double f d ∙ simp (le-ltb 64 (size t) h, lt-ltb 7 (specials t) g))
 answer-is {s} (accepted {t = t} p) =
-    let f : Fit s t = record { legal = p .legal; reads = p .reads; ordered = p .ordered } in
-    sym (of-single f (p .single) ∙ simp (le-ltb 64 (size t) (p .nodes), le-ltb 7 (specials t) (p .special)) (accepted-answer (p .reads)))
+    let f : WellFormed s t = record { legal = p .legal; reads = p .reads; ordered = p .ordered } in
+    sym (of-no-double f (p .no-double) ∙ simp (le-ltb 64 (size t) (p .nodes), le-ltb 7 (specials t) (p .special)) (accepted-answer (p .reads)))
 
 -- ---- what the proofs of the functions cite
 -- the answer of the code
@@ -257,9 +257,9 @@ size-passed m k {i} {j} =
 pub readable : {s : List ℕ} {m k i j : ℕ} → sentenceOutcome s ≡ Accepted m k → sizeOutcome m k ≡ Accepted i j → (length s ≤ 255) × Readable s
 readable {s} {m} {k} e f =
     let w = subst (Says s) e (sentence-says s) in
-    let t = tree-is (w .fit .reads) in
+    let t = tree-is (w .formed .reads) in
     let h = size-passed m k f .0 in
-    (w .fit .legal .fits .1, record { sentence = subst (Reads Alt 0 s) (sym t) (w .fit .reads); few = omega (arith, w .nodes, ap (λ (x : Tree). size x) t) })
+    (w .formed .legal .fits .1, record { sentence = subst (Reads Alt 0 s) (sym t) (w .formed .reads); few = omega (arith, w .nodes, ap (λ (x : Tree). size x) t) })
 
 -- a text that the scan finds to be a sentence, with the tree that is computed
 pub complete : {s : List ℕ} {m k : ℕ} → scanned s ≡ Complete m k

@@ -9,10 +9,10 @@ use Rattle.regex.proofs.RecordLaws.{records-length}
 use Rattle.verdict.specs.declared.Verdict.{Verdict}
 use Rattle.verdict.proofs.ByReader.{ByReader, below-judge, above-judge}
 use Rattle.rule.specs.RuleAnswer.{RuleAnswer, refusal, refusalVerdict, acceptance}
-use Rattle.rule.specs.RuleMeaning.{Passed, RuleMeaning, unfit, double-star, many-nodes, many-specials, accepted}
+use Rattle.rule.specs.RuleMeaning.{Passed, RuleMeaning, ill-formed, double-star, many-nodes, many-specials, accepted}
 use Rattle.rule.specs.declared.Refusal.{Refusal}
 use Rattle.rule.specs.declared.Refusal.the-variants.{EmptyText, LongText, ForeignByte, NoSentence, UnorderedSet, DoubleStar, ManyNodes, ManySpecials}
-use Rattle.rule.proofs.Answered.{unfit-is}
+use Rattle.rule.proofs.Answered.{ill-formed-is}
 
 pub in-row : (r : Refusal) → ByReader (refusalVerdict r)
 in-row EmptyText = below-judge 1 0 (omega arith) (omega arith)
@@ -30,8 +30,8 @@ data Row (s : List ℕ) (a : RuleAnswer) : Type 0 where
   passed-as : (t : Tree) → Passed s t → a ≡ acceptance t → Row s a
 
 row : {s : List ℕ} {a : RuleAnswer} → RuleMeaning s a → Row s a
-row (unfit u) =
-    let x = unfit-is u in
+row (ill-formed u) =
+    let x = ill-formed-is u in
     refused-by (x .why) (ap (λ (v : Verdict). refusal (v .number) (v .place)) (sym (x .verdict)))
 row (double-star {n = n} f d) = refused-by (DoubleStar n) refl
 row (many-nodes f d h) = refused-by ManyNodes refl

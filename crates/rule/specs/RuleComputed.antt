@@ -41,9 +41,9 @@ sentenceOutcome s =
 
 -- ---- and the others, of a text that those have accepted
 -- 02 f), number 21: "a star directly after a star"
-abbrev pub single : List ℕ → Outcome → Outcome
-single s (Accepted m k) = cond (ltb (doubleAt s) (length s)) (Refused (DoubleStar (doubleAt s))) (Accepted m k)
-single s (Refused r) = Refused r
+abbrev pub noDouble : List ℕ → Outcome → Outcome
+noDouble s (Accepted m k) = cond (ltb (doubleAt s) (length s)) (Refused (DoubleStar (doubleAt s))) (Accepted m k)
+noDouble s (Refused r) = Refused r
 
 -- 01, numbers 5 and 6: "m over 64", "k over 7"
 abbrev pub sizeOutcome : ℕ → ℕ → Outcome
@@ -60,7 +60,7 @@ storedOutcome s = sized (sentenceOutcome s)
 
 -- "21, .. directly after 20"
 abbrev pub ruleOutcome : List ℕ → Outcome
-ruleOutcome s = sized (single s (sentenceOutcome s))
+ruleOutcome s = sized (noDouble s (sentenceOutcome s))
 
 -- the records of a text with this outcome
 abbrev pub nodesWith : List ℕ → Outcome → List Node

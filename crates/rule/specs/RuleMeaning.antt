@@ -25,7 +25,7 @@ pub record Legal (s : List ℕ) : Type 0 where
   pub listed : Listed s (length s)
 
 -- a text that the numbers 1 to 4 and 20 do not refuse, and which the grammar reads as the tree t
-pub record Fit (s : List ℕ) (t : Tree) : Type 0 where
+pub record WellFormed (s : List ℕ) (t : Tree) : Type 0 where
   pub legal : Legal s
   pub reads : Reads Alt 0 s t
   pub ordered : Ordered s
@@ -35,33 +35,33 @@ pub record Passed (s : List ℕ) (t : Tree) : Type 0 where
   pub legal : Legal s
   pub reads : Reads Alt 0 s t
   pub ordered : Ordered s
-  pub single : NoDouble s
+  pub no-double : NoDouble s
   pub nodes : size t ≤ 64
   pub special : specials t ≤ 7
 
 -- one constructor for each of the numbers 1 to 4 and 20: what holds of the text; number and place
-pub data Unfit (s : List ℕ) : ℕ → ℕ → Type 0 where
+pub data IllFormed (s : List ℕ) : ℕ → ℕ → Type 0 where
   -- "1: empty."
-  empty-text : length s ≡ 0 → Unfit s 1 0
+  empty-text : length s ≡ 0 → IllFormed s 1 0
   -- "2: over 255 bytes."
-  long-text : 255 < length s → Unfit s 2 0
+  long-text : 255 < length s → IllFormed s 2 0
   -- "3: a byte outside the list; place is its offset, the first one's."
-  foreign-byte : {n : ℕ} → FitsLength s → n < length s → Listed s n → isRuleByte (getD s n 0) ≡ false → Unfit s 3 n
+  foreign-byte : {n : ℕ} → FitsLength s → n < length s → Listed s n → isRuleByte (getD s n 0) ≡ false → IllFormed s 3 n
   -- "4: not a sentence; place is the length of the longest beginning that some sentence of any length also has."
-  no-sentence : {n : ℕ} → Legal s → (Sentence s → ⊥) → Longest s n → Unfit s 4 n
+  no-sentence : {n : ℕ} → Legal s → (Sentence s → ⊥) → Longest s n → IllFormed s 4 n
   -- 02 e): "20, a letter inside brackets that is not above the one before it in byte order, place the offset of the first such letter, after 4
   -- and 17" (17 is of rule files alone)
-  unordered-set : {t : Tree} {n : ℕ} → Legal s → Reads Alt 0 s t → FirstUnordered s n → Unfit s 20 n
+  unordered-set : {t : Tree} {n : ℕ} → Legal s → Reads Alt 0 s t → FirstUnordered s n → IllFormed s 20 n
 
 -- what holds of the text, and the whole answer
 pub data RuleMeaning (s : List ℕ) : RuleAnswer → Type 0 where
   -- 1 to 4 and 20
-  unfit : {n p : ℕ} → Unfit s n p → RuleMeaning s (refusal n p)
+  ill-formed : {n p : ℕ} → IllFormed s n p → RuleMeaning s (refusal n p)
   -- 02 f): "21, a star directly after a star, place the first such star, directly after 20"
-  double-star : {t : Tree} {n : ℕ} → Fit s t → FirstDouble s n → RuleMeaning s (refusal 21 n)
+  double-star : {t : Tree} {n : ℕ} → WellFormed s t → FirstDouble s n → RuleMeaning s (refusal 21 n)
   -- "5: m over 64."
-  many-nodes : {t : Tree} → Fit s t → NoDouble s → 64 < size t → RuleMeaning s (refusal 5 0)
+  many-nodes : {t : Tree} → WellFormed s t → NoDouble s → 64 < size t → RuleMeaning s (refusal 5 0)
   -- "6: k over 7"
-  many-specials : {t : Tree} → Fit s t → NoDouble s → size t ≤ 64 → 7 < specials t → RuleMeaning s (refusal 6 0)
+  many-specials : {t : Tree} → WellFormed s t → NoDouble s → size t ≤ 64 → 7 < specials t → RuleMeaning s (refusal 6 0)
   -- accepted: m, k and the records are those of the tree that the text is read as
   accepted : {t : Tree} → Passed s t → RuleMeaning s (acceptance t)

@@ -26,7 +26,7 @@ use Rattle.replacement.proofs.PieceLaws.{replaced-by-pieces}
 use Rattle.replacement.proofs.ShapeLaws.{shape-tells, is-sentence, sentence-is, shape-plain, formed-shape, shape-formed}
 use Rattle.rule_line.specs.Lines.{Line}
 use Rattle.rule_line.specs.LineMeaning.{Begins, StandsFor, HasName, AtRule, isWritten, LegalText, ReadsAs}
-use Rattle.rule_line.specs.LineComputed.{has, textOf, knows, isLine, nameOf, bodyOf, ruleOf, Judged, bad, good, sized, ordered, single, replacedBy, judged}
+use Rattle.rule_line.specs.LineComputed.{has, textOf, knows, isLine, nameOf, bodyOf, ruleOf, Judged, bad, good, sized, ordered, noDouble, replacedBy, judged}
 use Rattle.rule_line.specs.Keeping.{Sound}
 use Rattle.rule_line.proofs.LineNames.{unlike, has-name, has-stands, stands-has, lacks, stands-sentence, knows-all, sound-none, sound-more}
 use Rattle.rule_line.proofs.LineLaws.{line-found, line-split}
@@ -56,16 +56,16 @@ module _ (file : List ℕ) (ls : List Line) (text n s more : List ℕ) (p : Pass
       (λ e. choose Q (ltb 7 (specials t)) (λ f. many-specials p a r o d (ltb-false _ _ e) (ltb-true _ _ f))
       (λ f. (r, o, d, ltb-false _ _ e, ltb-false _ _ f)))
 
-  single-says : (u : List ℕ) (t : Tree) → ReadsAs ls s u t → Ordered s → Says file ls s (single s (sized u t))
-  single-says u t r o =
+  no-double-says : (u : List ℕ) (t : Tree) → ReadsAs ls s u t → Ordered s → Says file ls s (noDouble s (sized u t))
+  no-double-says u t r o =
       choose (Says file ls s) (ltb (doubleAt s) (length s))
-      (λ e. let d = first-double s (ltb-true _ _ e) in double-star (d .before) p a r o (d .double))
+      (λ e. double-star (doubleAt s) p a r o (first-double s (ltb-true _ _ e) .there))
       (λ e. sized-says u t r o (no-double s (ltb-false _ _ e)))
 
-  ordered-says : (u : List ℕ) (t : Tree) → ReadsAs ls s u t → Says file ls s (ordered s (single s (sized u t)))
+  ordered-says : (u : List ℕ) (t : Tree) → ReadsAs ls s u t → Says file ls s (ordered s (noDouble s (sized u t)))
   ordered-says u t r =
       choose (Says file ls s) (ltb (unorderedAt s) (length s)) (λ e. unordered-set p a r (unordered-first s (ltb-true _ _ e) .there))
-      (λ e. single-says u t r (ordered-all s (ltb-false _ _ e)))
+      (λ e. no-double-says u t r (ordered-all s (ltb-false _ _ e)))
 
   reads-as : LegalText s → isSentence (shape s) ≡ true → knows ls (pieces s) ≡ true → ReadsAs ls s (replacedBy ls s) (treeOf (replacedBy ls s))
   reads-as l e k =

@@ -1,4 +1,4 @@
--- `fileAnswer` on the examples of requests b) and e), by computation. Assumes nothing.
+-- `fileAnswer` on the examples of requests b), e) and f), by computation. Assumes nothing.
 use Prim.Native.Nat.{ℕ, _+_, _^_}
 use Prim.Native.String.{String}
 use mathlib.Core.Path.{_≡_, refl}

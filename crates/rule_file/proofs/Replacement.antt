@@ -12,7 +12,7 @@ use Rattle.regex.proofs.OneReading.{one-reading}
 use Rattle.replacement.specs.Replaced.{Replaced}
 use Rattle.replacement.proofs.Grafted.{filled-is}
 use Rattle.replacement.proofs.Ordering.{replaced-ordered}
-use Rattle.replacement.proofs.SingleStars.{replaced-single}
+use Rattle.replacement.proofs.SingleStars.{replaced-no-double}
 use Rattle.rule_line.specs.Lines.{Line}
 use Rattle.rule_line.specs.LineMeaning.{StandsFor}
 use Rattle.rule_line.specs.LineComputed.{textOf}
@@ -65,6 +65,6 @@ line-ordered p = from-above Ordered p (λ ls s u above r o d.
     replaced-ordered (λ n v (x : StandsFor ls n v). subst Ordered (x .text) (above (x .line) (x .earlier))) r o)
 
 -- 02 f): nor a star directly after a star
-pub line-single : {file text : List ℕ} {ls : List Line} → Passed file ls text → (l : Line) → List·Memᴰ l ls → NoDouble (l .text)
-line-single p = from-above NoDouble p (λ ls s u above r o d.
-    replaced-single (λ n v (x : StandsFor ls n v). subst NoDouble (x .text) (above (x .line) (x .earlier))) r d)
+pub line-no-double : {file text : List ℕ} {ls : List Line} → Passed file ls text → (l : Line) → List·Memᴰ l ls → NoDouble (l .text)
+line-no-double p = from-above NoDouble p (λ ls s u above r o d.
+    replaced-no-double (λ n v (x : StandsFor ls n v). subst NoDouble (x .text) (above (x .line) (x .earlier))) r d)

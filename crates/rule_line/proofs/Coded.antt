@@ -19,7 +19,7 @@ use Rattle.replacement.specs.Graft.{moreNodes}
 use Rattle.replacement.proofs.Lengths.{replaced-length}
 use Rattle.rule_line.specs.Lines.{Line}
 use Rattle.rule_line.specs.LineMeaning.{LegalText}
-use Rattle.rule_line.specs.LineComputed.{has, textOf, treeNamed, knows, bad, sized, ordered, single, replacedBy, judged}
+use Rattle.rule_line.specs.LineComputed.{has, textOf, treeNamed, knows, bad, sized, ordered, noDouble, replacedBy, judged}
 use Rattle.rule_line.specs.Coding.{findFrom, originOf, lineAt, graftedNodes, Cut}
 use Rattle.rule_line.specs.Summing.{knownIn, summed, noSums, Summed}
 use Rattle.rule_line.specs.declared.sums.Sums.{Sums}
@@ -67,7 +67,7 @@ module _ (ls : List Line) (s : List ℕ) (d : Sound ls) (legal : LegalText s) (n
 
   -- 20, 21, 5, 6 and the line that passes: m, k, the length and the records of the replaced text
   pub record Coded (m k : ℕ) (places : List ℕ) (lines : List LineNodes) (w : Sums) : Type 0 where
-    pub same : judged ls s ≡ ordered s (single s (sized (replacedBy ls s) (treeOf (replacedBy ls s))))
+    pub same : judged ls s ≡ ordered s (noDouble s (sized (replacedBy ls s) (treeOf (replacedBy ls s))))
     pub nodes : size (treeOf (replacedBy ls s)) ≡ m + w .nodes
     pub special : specials (treeOf (replacedBy ls s)) ≡ k + w .specials
     pub long : length (replacedBy ls s) ≡ w .length

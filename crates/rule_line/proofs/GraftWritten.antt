@@ -2,11 +2,10 @@
 use Prim.Native.Nat.{ℕ, zero, suc, _+_, _-_, _≤_, _<_}
 use native.Mathlib.Omega.{arith}
 use mathlib.Core.Path.{_≡_, refl, sym, ap, ap₂, subst, _∙_}
-use mathlib.Core.Bool.{Bool, true, false}
+use mathlib.Core.Bool.{true}
 use mathlib.Core.List.{List, [], _∷_, _++_, map}
 use lib.ListN.{length, getD, take, length-append}
 use lib.Seq.{getD-take, length-take-le}
-use Rattle.event.specs.Event.{isEvent}
 use Rattle.event.proofs.Tests.{T-of}
 use Rattle.regex.specs.Tree.{Tree, records, nodeRecord}
 use Rattle.regex.specs.Grammar.{Level, Reads, alt-conj, alt-bar, conj-seq, conj-amp, seq-pre, seq-more, pre-post, pre-bang, post-atom}
@@ -16,7 +15,7 @@ use Rattle.regex.specs.declared.Kind.the-variants.{Empty, Epsilon, Letter, Unio
 use Rattle.regex.specs.declared.Node.{Node}
 use Rattle.regex.specs.Scan.{isSentence}
 use Rattle.regex.specs.TreeOf.{treeOf}
-use Rattle.regex.proofs.Texts.{begins}
+use Rattle.regex.proofs.Texts.{nonempty}
 use Rattle.regex.proofs.OneReading.{sentence-reads}
 use Rattle.replacement.specs.Pieces.{Piece, own, named, pieces, shape, shapeOf}
 use Rattle.replacement.specs.Graft.{graftKind, graftNodes, shiftNodes, place, operand, operandAt}
@@ -42,11 +41,6 @@ below-append n (a ∷ x) y p q = (p .0, below-append n x y (p .1) q)
 below-more : (m n : ℕ) → m ≤ n → (x : List Node) → Below m x → Below n x
 below-more m n h [] p = tt
 below-more m n h (a ∷ x) p = (omega (arith, p .0), below-more m n h x (p .1))
-
-nonempty : {l : Level} {o : ℕ} {u : List ℕ} {t : Tree} → Reads l o u t → 0 < length u
-unfolding isEvent
-nonempty {u = []} r = absurd (let z : _≡_ {A = Bool} true false = sym (begins r []) in let n : _≡_ {A = ℕ} 0 1 = cc in omega arith)
-nonempty {u = b ∷ u} r = omega arith
 
 two-sides : (n o : ℕ) (k : Kind) (x y : List Node) → Below n x → Below n y → o < n → Below n (x ++ y ++ nodeRecord o k)
 two-sides n o k x y p q h = below-append n (x ++ y) (nodeRecord o k) (below-append n x y p q) (h, tt)

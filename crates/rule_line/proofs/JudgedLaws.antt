@@ -28,7 +28,7 @@ use Rattle.replacement.proofs.ShapeLaws.{own-byte, shape-tells, is-sentence, se
 use Rattle.replacement.proofs.Grafted.{filled-is}
 use Rattle.rule_line.specs.Lines.{Line}
 use Rattle.rule_line.specs.LineMeaning.{StandsFor, HasName, isWritten, LegalText, Uses, ReadsAs}
-use Rattle.rule_line.specs.LineComputed.{textOf, knows, Judged, bad, good, sized, ordered, single, replacedBy, judged}
+use Rattle.rule_line.specs.LineComputed.{textOf, knows, Judged, bad, good, sized, ordered, noDouble, replacedBy, judged}
 use Rattle.rule_line.specs.Keeping.{Sound}
 use Rattle.rule_line.proofs.LineNames.{unlike, has-name, stands-has, lacks, stands-is, stands-sentence}
 use Rattle.rule_line.proofs.UsesLaws.{used-unknown}
@@ -47,19 +47,19 @@ replaced-knows ls (name {n = n} {s = s} a w r) =
 pub in-order : (s : List ℕ) → length s ≤ unorderedAt s → {j : Judged} → ordered s j ≡ j
 in-order s h = rw (le-ltb (unorderedAt s) (length s) h)
 
-pub all-single : (s : List ℕ) → length s ≤ doubleAt s → {j : Judged} → single s j ≡ j
-all-single s h = rw (le-ltb (doubleAt s) (length s) h)
+pub all-no-double : (s : List ℕ) → length s ≤ doubleAt s → {j : Judged} → noDouble s j ≡ j
+all-no-double s h = rw (le-ltb (doubleAt s) (length s) h)
 
 module _ (ls : List Line) (s : List ℕ) where
   past-lengths : FitsLength s → {x : Judged} → (cond (ltb (leading isWritten s) (length s)) (bad 3)
-      (cond (isSentence (shape s)) (cond (knows ls (pieces s)) (ordered s (single s (sized (replacedBy ls s) (treeOf (replacedBy ls s))))) (bad 17)) (bad 4))) ≡ x
+      (cond (isSentence (shape s)) (cond (knows ls (pieces s)) (ordered s (noDouble s (sized (replacedBy ls s) (treeOf (replacedBy ls s))))) (bad 17)) (bad 4))) ≡ x
       → judged ls s ≡ x
   unfolding judged
   past-lengths f e =
       let n : length s ≡ 0 → ⊥ = λ e. omega arith in
       rw (ne-eqb (length s) 0 n, le-ltb 255 (length s) (f .1)) e
 
-  pub past-bytes : LegalText s → {x : Judged} → (cond (isSentence (shape s)) (cond (knows ls (pieces s)) (ordered s (single s (sized (replacedBy ls s) (treeOf (replacedBy ls s))))) (bad 17))
+  pub past-bytes : LegalText s → {x : Judged} → (cond (isSentence (shape s)) (cond (knows ls (pieces s)) (ordered s (noDouble s (sized (replacedBy ls s) (treeOf (replacedBy ls s))))) (bad 17))
       (bad 4)) ≡ x → judged ls s ≡ x
   past-bytes l e =
       let f = leading-is isWritten s (length s) (record { within = omega arith; before = l .listed; there = λ h. absurd (omega arith) }) in
@@ -96,12 +96,12 @@ module _ (ls : List Line) (s : List ℕ) where
         used-unknown ls (f .replaced) (u .before) x (u .after) (u .name) (u .whole) (lacks ls x h),
       ))
 
-  read-judged : {u : List ℕ} {t : Tree} → Sound ls → ReadsAs ls s u t → judged ls s ≡ ordered s (single s (sized u t))
+  read-judged : {u : List ℕ} {t : Tree} → Sound ls → ReadsAs ls s u t → judged ls s ≡ ordered s (noDouble s (sized u t))
   read-judged {u} {t} d r =
       let e = filled-is (textOf ls) (stands-is d) (r .replaced) in
       let y = sym (shape-tells (stands-sentence d) (r .replaced)) ∙ is-sentence (t, r .reads) in
       past-bytes (r .legal) (rw (y, replaced-knows ls (r .replaced))
-      (ap (λ (j : Judged). ordered s (single s j)) (ap₂ sized (sym e) (ap treeOf (sym e) ∙ tree-is (r .reads)))))
+      (ap (λ (j : Judged). ordered s (noDouble s j)) (ap₂ sized (sym e) (ap treeOf (sym e) ∙ tree-is (r .reads)))))
 
   pub judged-unordered : {u : List ℕ} {t : Tree} {i : ℕ} → Sound ls → ReadsAs ls s u t → Unordered s i → judged ls s ≡ bad 20
   judged-unordered {i = i} d r x = read-judged d r ∙ choose (λ (j : Judged). j ≡ bad 20) (ltb (unorderedAt s) (length s)) (λ e. refl)
@@ -112,7 +112,7 @@ module _ (ls : List Line) (s : List ℕ) where
       ∙ choose (λ (j : Judged). j ≡ bad 21) (ltb (doubleAt s) (length s)) (λ e. refl) (λ e. absurd (no-double s (ltb-false _ _ e) i x))
 
   pub judged-reads : {u : List ℕ} {t : Tree} → Sound ls → ReadsAs ls s u t → Ordered s → NoDouble s → judged ls s ≡ sized u t
-  judged-reads d r o x = read-judged d r ∙ in-order s (ordered-is o) ∙ all-single s (none-is s x)
+  judged-reads d r o x = read-judged d r ∙ in-order s (ordered-is o) ∙ all-no-double s (none-is s x)
 
 pub sized-good : (u : List ℕ) (t : Tree) → size t ≤ 64 → specials t ≤ 7 → sized u t ≡ good u t
 sized-good u t h g = rw (le-ltb 64 (size t) h, le-ltb 7 (specials t) g)

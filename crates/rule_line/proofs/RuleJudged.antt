@@ -24,7 +24,7 @@ use Rattle.regex.proofs.RecordLaws.{records-length}
 use Rattle.rule.specs.RuleAnswer.{unused}
 use Rattle.rule_line.specs.Lines.{Line, refusalNumber}
 use Rattle.rule_line.specs.LineMeaning.{isWritten, LegalText}
-use Rattle.rule_line.specs.LineComputed.{bad, sized, ordered, single, judged, replacedBy}
+use Rattle.rule_line.specs.LineComputed.{bad, sized, ordered, noDouble, judged, replacedBy}
 use Rattle.rule_line.specs.Coding.{nameAt, findFrom, lineAt, graftedNodes, Cut}
 use Rattle.rule_line.specs.Summing.{knownIn, Summed}
 use Rattle.rule_line.specs.Keeping.{Each, Bounded, Kept, sumsOf, Sentence, sizedRule, SentenceSays, RuleSays}
@@ -35,7 +35,7 @@ use Rattle.rule_line.specs.declared.text.RuleOutcome.{RuleOutcome}
 use Rattle.rule_line.specs.declared.text.RuleOutcome.the-variants.{Refused}
 use Rattle.rule_line.specs.declared.Refusal.{Refusal}
 use Rattle.rule_line.proofs.Coded.{Coded, coded-broken, coded-unknown, coded-unordered, coded-double, coded-bound, coded}
-use Rattle.rule_line.proofs.JudgedLaws.{legal, in-order, all-single}
+use Rattle.rule_line.proofs.JudgedLaws.{legal, in-order, all-no-double}
 use Rattle.rule_line.proofs.StoredLines.{Good, good-at, all-written}
 
 known-each : (r : ℕ) (os : List ℕ) → knownIn r os ≡ true → (j : ℕ) → getD os j 0 ≤ r
@@ -164,8 +164,8 @@ module _ (file : List ℕ) (r : ℕ) (names facts : List ℕ) (lines : List Line
         → RuleSays ls s (q .outcome) (q .nodes)
     says {i} {d} u o v p q a = subst (λ (o : RuleOutcome). RuleSays ls s o (q .nodes)) (sym (a .outcome)) (go (decLe m-replaced 64) (decLe k-replaced 7))
       where
-        checked : ordered s (single s (sized replaced (treeOf replaced))) ≡ sized replaced (treeOf replaced)
-        checked = in-order s (omega arith) ∙ all-single s (omega arith)
+        checked : ordered s (noDouble s (sized replaced (treeOf replaced))) ≡ sized replaced (treeOf replaced)
+        checked = in-order s (omega arith) ∙ all-no-double s (omega arith)
 
         go : Dec (m-replaced ≤ 64) → Dec (k-replaced ≤ 7) → RuleSays ls s (sizedRule m-replaced k-replaced (sums .length)) (q .nodes)
         go (no x) y =

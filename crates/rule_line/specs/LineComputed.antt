@@ -69,8 +69,8 @@ abbrev pub ordered : List ℕ → Judged → Judged
 ordered s r = cond (ltb (unorderedAt s) (length s)) (bad 20) r
 
 -- 02 f), number 21: "directly after 20"
-abbrev pub single : List ℕ → Judged → Judged
-single s r = cond (ltb (doubleAt s) (length s)) (bad 21) r
+abbrev pub noDouble : List ℕ → Judged → Judged
+noDouble s r = cond (ltb (doubleAt s) (length s)) (bad 21) r
 
 abbrev pub replacedBy : List Line → List ℕ → List ℕ
 replacedBy ls s = filled (textOf ls) (pieces s)
@@ -78,7 +78,7 @@ replacedBy ls s = filled (textOf ls) (pieces s)
 unfoldable pub judged : List Line → List ℕ → Judged
 judged ls s =
     let u = replacedBy ls s in
-    let r = ordered s (single s (sized u (treeOf u))) in
+    let r = ordered s (noDouble s (sized u (treeOf u))) in
     cond (eqb (length s) 0) (bad 1)
     (cond (ltb 255 (length s)) (bad 2)
     (cond (ltb (leading isWritten s) (length s)) (bad 3)

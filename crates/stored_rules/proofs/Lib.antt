@@ -1,3 +1,3 @@
 -- The judge on the rewritten text of a stored rule, and a job with it.
-pub mod Rejudged
-pub mod Relisted
+pub mod Judgements
+pub mod Listings

@@ -19,10 +19,10 @@ use Rattle.judge.specs.JudgeAnswer.{JudgeAnswer}
 use Rattle.judge.specs.JudgeComputed.{judgeAnswer}
 use Rattle.judge.proofs.Determined.{to-match}
 use Rattle.rewrite.specs.Rewritten.{rewritten}
-use Rattle.rewrite.specs.RewriteMeaning.{Stored}
+use Rattle.rewrite.specs.RewriteMeaning.{Rewritable}
 use Rattle.rewrite.specs.Same.{Same}
 use Rattle.rewrite.proofs.Stays.{table-same, found-same}
-use Rattle.rewrite.proofs.Carried.{carried}
+use Rattle.rewrite.proofs.RewrittenRules.{rewritten-rule}
 use Rattle.stored_rules.specs.SameJudged.{SameJudged}
 
 -- unless the first is a 10
@@ -66,11 +66,11 @@ module _ (w : Word) (limit : ℕ) (old : List ℕ) (t u : Tree) (p : Same t u) (
       (tested (eqb (fitAnswer (specials t) w old .number) 0) _ _ (told (fitAnswer (specials t) w old) old) _ limited-same
       (same (told (fitAnswer (specials t) w old) old)))
 
--- `matchAnswer t` is what the judge answers of a rule that passes its row and is read as t, and so what it answered of a stored rule before
--- there was a 21
-pub rejudged : (s : List ℕ) (t : Tree) → Stored s t → (w : Word) (limit : ℕ) (old : List ℕ) → (matchAnswer t w limit old .number ≡ 10 → ⊥)
+-- `matchAnswer t` is what the judge answers of a rule that passes its row and is read as t; of a rule that 21 refuses it is the answer that
+-- the rule would have without that number
+pub same-judged : (s : List ℕ) (t : Tree) → Rewritable s t → (w : Word) (limit : ℕ) (old : List ℕ) → (matchAnswer t w limit old .number ≡ 10 → ⊥)
     → SameJudged (matchAnswer t w limit old) (judgeAnswer (rewritten s) w limit old)
-rejudged s t p w limit old n =
-    let (u, c) = carried p in
+same-judged s t p w limit old n =
+    let (u, c) = rewritten-rule p in
     subst (λ (a : JudgeAnswer). SameJudged (matchAnswer t w limit old) a) (to-match (rewritten s) w limit old u (c .passed))
     (match-same w limit old t u (c .same) (c .counts w) n)

@@ -18,9 +18,10 @@ use Rattle.job.specs.JobMeaning.{BothPassed, Lists, Writes, writes-list}
 use Rattle.job.proofs.Answered.{judged-short}
 use Rattle.job.proofs.Listed.{lists-text, text-obeying, same-spans, one-found, one-count}
 use Rattle.rewrite.specs.Rewritten.{rewritten}
-use Rattle.rewrite.specs.RewriteMeaning.{Stored}
+use Rattle.rewrite.specs.RewriteMeaning.{Rewritable}
 use Rattle.rewrite.proofs.Stays.{found-same}
-use Rattle.rewrite.proofs.Carried.{Carried, carried}
+use Rattle.rewrite.specs.RewrittenRule.{RewrittenRule}
+use Rattle.rewrite.proofs.RewrittenRules.{rewritten-rule}
 use Rattle.stored_rules.specs.SameLines.{jobOf, SameLines}
 
 -- no byte of a rule is a newline
@@ -32,7 +33,7 @@ module _ (rule file : List ℕ) (t : Tree) (events : List DayEvent) (day : Whole
   abbrev word : Word
   word = map letterOf events
 
-  both : (u : Tree) → Carried rule t u → BothPassed (jobOf (rewritten rule) file) u word
+  both : (u : Tree) → RewrittenRule rule t u → BothPassed (jobOf (rewritten rule) file) u word
   both u c = record {
     rule = rewritten rule;
     file = file;
@@ -43,12 +44,12 @@ module _ (rule file : List ℕ) (t : Tree) (events : List DayEvent) (day : Whole
     word = refl;
   }
 
-  -- `Lists` is what a job says with a rule that passes its row and is read as t, and so what a job with a stored rule said before there was
-  -- a 21. Whatever was listed of it, the job with the new rule has the same `S` lines.
-  pub relisted : Stored rule t → {found count : ℕ} {text : List ℕ} (l : Lists word t found count text)
+  -- `Lists` is what a job says with a rule that passes its row and is read as t; of a rule that 21 refuses it is the listing that the rule
+  -- would have without that number. Whatever it lists, the job with the rewritten rule has the same `S` lines.
+  pub same-lines : Rewritable rule t → {found count : ℕ} {text : List ℕ} (l : Lists word t found count text)
       → SameLines word t found count (l .spans) (jobOf (rewritten rule) file)
-  relisted p {found} {count} l =
-      let (u, c) = carried p in
+  same-lines p {found} {count} l =
+      let (u, c) = rewritten-rule p in
       let j = both u c in
       let short = judged-short j in
       let e = same-spans word t short l ∙ c .lists word in
