@@ -1,19 +1,24 @@
 -- `dayAnswer` is the one answer that says by the form of the lines what document 01 asks. Assumes nothing.
 use Prim.Native.Nat.{ℕ, zero, suc, _+_, _-_, _≤_, _<_}
 use native.Mathlib.Omega.{arith}
-use mathlib.Core.Path.{_≡_, refl, sym, ap, subst, _∙_}
+use mathlib.Core.Path.{_≡_, refl, sym, ap, ap₂, subst, _∙_}
 use mathlib.Core.Logic.{_⊎_, inl, inr}
 use mathlib.Core.Bool.{true, _||_, or-true}
-use mathlib.Core.List.{List, [], _∷_}
+use mathlib.Core.List.{List, [], _∷_, _++_, map}
 use lib.Dec.{ltb}
-use lib.ListN.{length, drop}
+use lib.ListN.{length, drop, length-map}
+use lib.Seq.{sets, sets-eq}
 use borrow.Author.Tests.{ltb-true, ltb-false, lt-ltb, le-ltb}
 use Rattle.event.proofs.Tests.{either, neither, choose}
-use Rattle.day.specs.DayFile.{lastSecond, DayEvent, LineAt, Lines, done, more, secondAfter}
+use Rattle.verdict.specs.Verdicts as verdict
+use Rattle.verdict.specs.declared.Verdict.{Verdict}
+use Rattle.day.specs.DayFile.{lastSecond, DayEvent, letterOf, secondOf, LineAt, Lines, done, more, secondAfter}
 use Rattle.day.specs.DayLines.{LinesResult, stopped, events, front, judged, lineOf, dayLines}
-use Rattle.day.specs.DayAnswer.{DayAnswer, refusal}
-use Rattle.day.specs.DayComputed.{answered, dayAnswer}
-use Rattle.day.specs.DayMeaning.{DayMeaning, long-file, many-lines, malformed-line, wrong-second, short-buffer, accepted, Whole}
+use Rattle.day.specs.DayAnswer.{DayAnswer, values, refusal, acceptance, refusalVerdict, told}
+use Rattle.day.specs.DayComputed.{dayEvents, answered, dayAnswer}
+use Rattle.day.specs.DayMeaning.{Whole, DayRefused, long-file, many-lines, malformed-line, wrong-second}
+use Rattle.day.specs.DayMeaning.{DayMeaning, file-refused, short-buffer, accepted}
+use Rattle.day.specs.declared.Refusal.{Refusal}
 use Rattle.day.specs.declared.Refusal.the-variants as why
 use Rattle.day.specs.declared.line.LineRead.{LineRead}
 use Rattle.day.specs.declared.line.LineRead.the-variants.{Formed, Malformed}
@@ -25,7 +30,7 @@ unlike : (x c size : ℕ) → Formed x c size ≡ Malformed → ⊥
 unlike x c size e = let n : _≡_ {A = ℕ} 0 1 = cc in omega arith
 
 -- one of two tests for less passes
-less : {a b c d : ℕ} → (ltb a b ≡ true) ⊎ (ltb c d ≡ true) → (a < b) ⊎ (c < d)
+pub less : {a b c d : ℕ} → (ltb a b ≡ true) ⊎ (ltb c d ≡ true) → (a < b) ⊎ (c < d)
 less (inl t) = inl (ltb-true _ _ t)
 less (inr t) = inr (ltb-true _ _ t)
 
@@ -112,21 +117,42 @@ says (suc left) y (b ∷ s) h = says-line left y (b ∷ s) (omega arith) (omega 
 pub good-lines : (s : List ℕ) (l : List DayEvent) → dayLines 255 0 s ≡ events l → Lines 0 s l []
 good-lines s l e = subst (Says 255 0 s) e (says 255 0 s (omega arith)) .0
 
-means : (s ls ss : List ℕ) → length s ≤ 2550 → (d : LinesResult) → Says 255 0 s d → DayMeaning s ls ss (answered d ls ss)
-means s ls ss h (stopped (why.Malformed p)) b =
+-- a file is refused as it comes to, or is the lines of its events
+abbrev pub Reads : List ℕ → LinesResult → Type 0
+Reads s (stopped r) = DayRefused s (refusalVerdict r .number) (refusalVerdict r .place)
+Reads s (events l) = Whole s l
+
+lines-read : (s : List ℕ) → length s ≤ 2550 → (d : LinesResult) → Says 255 0 s d → Reads s d
+lines-read s h (stopped (why.Malformed p)) b =
     let e : suc (length (b .l)) ≡ p = omega (arith, b .place) in
-    subst (λ (q : ℕ). DayMeaning s ls ss (refusal 12 q ls ss)) e
-    (malformed-line (record { fits = h; good = b .good; begun = b .begun }) (b .few) (b .why))
-means s ls ss h (stopped (why.WrongSecond p)) b =
+    subst (DayRefused s 12) e (malformed-line (record { fits = h; good = b .good; begun = b .begun }) (b .few) (b .why))
+lines-read s h (stopped (why.WrongSecond p)) b =
     let e : suc (length (b .l)) ≡ p = omega (arith, b .place) in
     let w = b .why in
-    subst (λ (q : ℕ). DayMeaning s ls ss (refusal 13 q ls ss)) e
-    (wrong-second (record { fits = h; good = b .good; begun = b .begun }) (b .few) (w .2) (w .3))
-means s ls ss h (stopped why.ManyLines) b = many-lines (record { fits = h; good = b .good; begun = b .begun }) (b .all)
-means s ls ss h (stopped why.LongFile) b = absurd b
-means s ls ss h (stopped why.ShortBuffer) b = absurd b
-means s ls ss h (events l) b =
-    let w : Whole s l = record { fits = h; good = b .0; few = b .1 } in
+    subst (DayRefused s 13) e (wrong-second (record { fits = h; good = b .good; begun = b .begun }) (b .few) (w .2) (w .3))
+lines-read s h (stopped why.ManyLines) b = many-lines (record { fits = h; good = b .good; begun = b .begun }) (b .all)
+lines-read s h (stopped why.LongFile) b = absurd b
+lines-read s h (stopped why.ShortBuffer) b = absurd b
+lines-read s h (events l) b = record { fits = h; good = b .0; few = b .1 }
+
+pub events-read : (s : List ℕ) → Reads s (dayEvents s)
+unfolding dayEvents
+events-read s =
+    choose (Reads s) (ltb 2550 (length s)) (λ f. long-file (ltb-true 2550 (length s) f))
+    (λ f. lines-read s (ltb-false 2550 (length s) f) (dayLines 255 0 s) (says 255 0 s (omega arith)))
+
+-- a refusal told is number and place, and all else 0
+pub told-refusal : (r : Refusal) (ls ss : List ℕ)
+    → told (refusalVerdict r) 0 ls ss ≡ refusal (refusalVerdict r .number) (refusalVerdict r .place) ls ss
+told-refusal why.LongFile ls ss = refl
+told-refusal (why.Malformed p) ls ss = refl
+told-refusal (why.WrongSecond p) ls ss = refl
+told-refusal why.ManyLines ls ss = refl
+told-refusal why.ShortBuffer ls ss = refl
+
+means : (s ls ss : List ℕ) (d : LinesResult) → Reads s d → DayMeaning s ls ss (answered d ls ss)
+means s ls ss (stopped r) m = subst (DayMeaning s ls ss) (sym (told-refusal r ls ss)) (file-refused m)
+means s ls ss (events l) w =
     choose (DayMeaning s ls ss) (ltb (length ls) (length l) || ltb (length ss) (length l))
     (λ f. short-buffer w (less (either _ _ f)))
     (λ f. let n = neither (ltb (length ls) (length l)) (ltb (length ss) (length l)) f in
@@ -134,9 +160,7 @@ means s ls ss h (events l) b =
 
 pub answer-means : (s ls ss : List ℕ) → DayMeaning s ls ss (dayAnswer s ls ss)
 unfolding dayAnswer
-answer-means s ls ss =
-    choose (DayMeaning s ls ss) (ltb 2550 (length s)) (λ f. long-file (ltb-true 2550 (length s) f))
-    (λ f. means s ls ss (ltb-false 2550 (length s) f) (dayLines 255 0 s) (says 255 0 s (omega arith)))
+answer-means s ls ss = means s ls ss (dayEvents s) (events-read s)
 
 -- ---- no other answer says so
 -- good lines in front
@@ -187,34 +211,89 @@ no-line s h = go (lineOf s) refl
 pub whole-lines : {s : List ℕ} {l : List DayEvent} → Lines 0 s l [] → length l ≤ 255 → dayLines 255 0 s ≡ events l
 whole-lines {s} {l} g h = run-all g h ∙ ap (prefixed l) (turn-end (255 - length l) (secondAfter 0 l)) ∙ prefixed-events l
 
--- ---- the answer of a file that fits, by what its lines come to
-pub by-lines : (s ls ss : List ℕ) (d : LinesResult) → length s ≤ 2550 → dayLines 255 0 s ≡ d → answered d ls ss ≡ dayAnswer s ls ss
-unfolding dayAnswer
-by-lines s ls ss d h e = ap (λ (x : LinesResult). answered x ls ss) (sym e) ∙ simp (le-ltb 2550 (length s) h)
+-- ---- what a file comes to is what it means
+pub by-lines : (s : List ℕ) (d : LinesResult) → length s ≤ 2550 → dayLines 255 0 s ≡ d → dayEvents s ≡ d
+unfolding dayEvents
+by-lines s d h e = let f : dayEvents s ≡ dayLines 255 0 s = simp (le-ltb 2550 (length s) h) in f ∙ e
 
-pub shorter : (a b n : ℕ) → (a < n) ⊎ (b < n) → (ltb a n || ltb b n) ≡ true
+pub read-events : {s : List ℕ} {l : List DayEvent} → Whole s l → dayEvents s ≡ events l
+read-events {s} {l} w = by-lines s (events l) (w .fits) (whole-lines (w .good) (w .few))
+
+-- a file that is refused with this number and place
+pub record Stopped (s : List ℕ) (number place : ℕ) : Type 0 where
+  pub why : Refusal
+  pub comes : dayEvents s ≡ stopped why
+  pub says : refusalVerdict why ≡ verdict.refused number place
+
+pub read-refused : {s : List ℕ} {number place : ℕ} → DayRefused s number place → Stopped s number place
+unfolding dayEvents
+read-refused {s} (long-file h) = record { why = why.LongFile; comes = simp (lt-ltb 2550 (length s) h); says = refl }
+read-refused {s} (many-lines {l = l} {rest = rest} u h) =
+    record {
+      why = why.ManyLines;
+      comes = by-lines s (stopped why.ManyLines) (u .fits) (run-all (u .good) (omega arith)
+          ∙ ap (prefixed l) (turn-many (length l) (secondAfter 0 l) rest h (u .begun)) ∙ prefixed-refusal (stopped why.ManyLines) (λ e. refl) l);
+      says = refl;
+    }
+read-refused {s} (malformed-line {l = l} {rest = rest} u h n) =
+    let p : length l + 1 ≡ suc (length l) = omega arith in
+    let d = stopped (why.Malformed (suc (length l))) in
+    record {
+      why = why.Malformed (suc (length l));
+      comes = by-lines s d (u .fits) (run-all (u .good) (omega arith)
+          ∙ ap (prefixed l) (turn-malformed (length l) (secondAfter 0 l) rest h (u .begun) (no-line rest n)
+          ∙ ap (λ (x : ℕ). stopped (why.Malformed x)) p)
+          ∙ prefixed-refusal d (λ e. refl) l);
+      says = refl;
+    }
+read-refused {s} (wrong-second {l = l} {rest = rest} {after = after} {e = e} u h a w) =
+    let p : length l + 1 ≡ suc (length l) = omega arith in
+    let f = line-found rest e after a in
+    let d = stopped (why.WrongSecond (suc (length l))) in
+    record {
+      why = why.WrongSecond (suc (length l));
+      comes = by-lines s d (u .fits) (run-all (u .good) (omega arith)
+          ∙ ap (prefixed l) (turn-wrong (length l) (secondAfter 0 l) rest h (u .begun) _ _ _ (f .1) w
+          ∙ ap (λ (x : ℕ). stopped (why.WrongSecond x)) p)
+          ∙ prefixed-refusal d (λ e. refl) l);
+      says = refl;
+    }
+
+-- ---- the answer, by what the file comes to
+pub answer-of : (s ls ss : List ℕ) (d : LinesResult) → dayEvents s ≡ d → answered d ls ss ≡ dayAnswer s ls ss
+unfolding dayAnswer
+answer-of s ls ss d e = ap (λ (x : LinesResult). answered x ls ss) (sym e)
+
+-- ---- the answer to events, by the room in the buffers
+shorter : (a b n : ℕ) → (a < n) ⊎ (b < n) → (ltb a n || ltb b n) ≡ true
 shorter a b n (inl h) = simp (lt-ltb a n h)
 shorter a b n (inr h) = simp (lt-ltb b n h, or-true)
 
+pub too-short : (l : List DayEvent) (ls ss : List ℕ) → (length ls < length l) ⊎ (length ss < length l)
+    → refusal 15 0 ls ss ≡ answered (events l) ls ss
+too-short l ls ss h = simp (shorter (length ls) (length ss) (length l) h)
+
+pub with-room : (l : List DayEvent) (ls ss : List ℕ) → length l ≤ length ls → length l ≤ length ss → acceptance l ls ss ≡ answered (events l) ls ss
+with-room l ls ss h g = simp (le-ltb (length ls) (length l) h, le-ltb (length ss) (length l) g)
+
+-- what is stored from 0 on, and what is left beyond it
+stored : (f : DayEvent → ℕ) (l : List DayEvent) (b c : List ℕ) → length l ≤ length b → c ≡ sets b 0 (map f l)
+    → c ≡ map f l ++ drop (length l) b
+stored f l b c m q =
+    let k : length (map f l) ≡ length l = length-map l f in
+    let z : 0 + length (map f l) ≡ length l = omega arith in
+    q ∙ sets-eq (map f l) b 0 (omega arith) ∙ ap (λ (j : ℕ). map f l ++ drop j b) z
+
+pub accepts : (l : List DayEvent) (n : ℕ) (ls ss ls′ ss′ : List ℕ) → n ≡ length l → n ≤ length ls → n ≤ length ss
+    → ls′ ≡ sets ls 0 (map letterOf l) → ss′ ≡ sets ss 0 (map secondOf l) → values 0 0 n ls′ ss′ ≡ answered (events l) ls ss
+accepts l n ls ss ls′ ss′ e h g p q =
+    ap (λ (k : ℕ). values 0 0 k ls′ ss′) e
+    ∙ ap₂ (λ (u v : List ℕ). values 0 0 (length l) u v) (stored letterOf l ls ls′ (omega arith) p) (stored secondOf l ss ss′ (omega arith) q)
+    ∙ with-room l ls ss (omega arith) (omega arith)
+
 pub answer-is : {s ls ss : List ℕ} {a : DayAnswer} → DayMeaning s ls ss a → a ≡ dayAnswer s ls ss
-unfolding dayAnswer
-answer-is {s} {ls} {ss} (long-file h) = simp (lt-ltb 2550 (length s) h)
-answer-is {s} {ls} {ss} (many-lines {l = l} {rest = rest} u h) =
-    by-lines s ls ss (stopped why.ManyLines) (u .fits) (run-all (u .good) (omega arith)
-    ∙ ap (prefixed l) (turn-many (length l) (secondAfter 0 l) rest h (u .begun)) ∙ prefixed-refusal (stopped why.ManyLines) (λ e. refl) l)
-answer-is {s} {ls} {ss} (malformed-line {l = l} {rest = rest} u h n) =
-    let p : length l + 1 ≡ suc (length l) = omega arith in
-    by-lines s ls ss (stopped (why.Malformed (suc (length l)))) (u .fits) (run-all (u .good) (omega arith)
-    ∙ ap (prefixed l) (turn-malformed (length l) (secondAfter 0 l) rest h (u .begun) (no-line rest n) ∙ ap (λ (x : ℕ). stopped (why.Malformed x)) p)
-    ∙ prefixed-refusal (stopped (why.Malformed (suc (length l)))) (λ e. refl) l)
-answer-is {s} {ls} {ss} (wrong-second {l = l} {rest = rest} {after = after} {e = e} u h a w) =
-    let p : length l + 1 ≡ suc (length l) = omega arith in
-    let f = line-found rest e after a in
-    by-lines s ls ss (stopped (why.WrongSecond (suc (length l)))) (u .fits) (run-all (u .good) (omega arith)
-    ∙ ap (prefixed l) (turn-wrong (length l) (secondAfter 0 l) rest h (u .begun) _ _ _ (f .1) w ∙ ap (λ (x : ℕ). stopped (why.WrongSecond x)) p)
-    ∙ prefixed-refusal (stopped (why.WrongSecond (suc (length l)))) (λ e. refl) l)
-answer-is {s} {ls} {ss} (short-buffer {l = l} w h) =
-    sym (simp (shorter (length ls) (length ss) (length l) h)) ∙ by-lines s ls ss (events l) (w .fits) (whole-lines (w .good) (w .few))
-answer-is {s} {ls} {ss} (accepted {l = l} w h g) =
-    sym (simp (le-ltb (length ls) (length l) h, le-ltb (length ss) (length l) g))
-    ∙ by-lines s ls ss (events l) (w .fits) (whole-lines (w .good) (w .few))
+answer-is {s} {ls} {ss} (file-refused m) =
+    let g = read-refused m in
+    ap (λ (v : Verdict). told v 0 ls ss) (sym (g .says)) ∙ answer-of s ls ss (stopped (g .why)) (g .comes)
+answer-is {s} {ls} {ss} (short-buffer {l = l} w h) = too-short l ls ss h ∙ answer-of s ls ss (events l) (read-events w)
+answer-is {s} {ls} {ss} (accepted {l = l} w h g) = with-room l ls ss h g ∙ answer-of s ls ss (events l) (read-events w)

@@ -17,7 +17,7 @@ use Rattle.regex.specs.OrderComputed.{unorderedFrom}
 use Rattle.regex.specs.StarsComputed.{doubleFrom}
 use Rattle.rule.specs.RuleComputed.{sentenceOutcome, ruleAnswer}
 use Rattle.day.specs.DayLines.{lineOf, dayLines}
-use Rattle.day.specs.DayComputed.{dayAnswer}
+use Rattle.day.specs.DayComputed.{dayEvents, dayAnswer}
 use Rattle.work.specs.Count.{fullCount}
 use Rattle.work.specs.TableComputed.{obeys, block, table, found}
 use Rattle.table.specs.Layout.{spanBit}
@@ -29,6 +29,6 @@ use Rattle.job.specs.JobComputed.{jobResult, jobText}
 
 -- 01, The program: "Whole case"
 whole-case : jobText (bytes "R\t!a\nE\t0\ta\n") ≡ bytes "H\t1\t2\t1\t2\t7\nS\t0\t0\nS\t1\t1\n"
-unfolding jobText jobResult decimalIn listing spanLines ends starts spanBit judgeAnswer matchAnswer fitAnswer dayAnswer dayLines lineOf
+unfolding jobText jobResult decimalIn listing spanLines ends starts spanBit judgeAnswer matchAnswer fitAnswer dayAnswer dayEvents dayLines lineOf
     leading isEvent ruleAnswer sentenceOutcome treeOf parse leafAt scanFrom unorderedFrom doubleFrom holds bitOf accepts fullCount obeys block table found packedRun packed onesOf ones hasBit bitAt
 whole-case = refl

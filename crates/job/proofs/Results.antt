@@ -39,7 +39,7 @@ use Rattle.job.proofs.Rows.{limit-enough, result-refused, refused-above
 row-apart : {s : List ℕ} {n p : ℕ} → JobRefused s n p → 7 ≤ n → n ≤ 10 → ⊥
 row-apart (no-rule-line h) z l = omega arith
 row-apart (rule-refused d m) z l = rule-rows.row-apart m z l
-row-apart (day-refused d r m) z l = day-rows.row-apart (m .means) z l
+row-apart (day-refused d r m) z l = day-rows.row-apart m z l
 
 apart : {s old : List ℕ} {a : JobAnswer} → JobMeaning s old a → 7 ≤ a .number → a .number ≤ 10 → ⊥
 apart (row-refused r) z l = row-apart r z l

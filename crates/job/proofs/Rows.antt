@@ -18,12 +18,12 @@ use Rattle.rule.specs.RuleMeaning as rule-meaning
 use Rattle.rule.proofs.Answered as rule-answered
 use Rattle.rule.proofs.Rows.{accepting, refusing, refused-number}
 use Rattle.day.specs.DayFile.{DayEvent, letterOf}
-use Rattle.day.specs.DayComputed.{dayAnswer}
-use Rattle.day.specs.DayMeaning.{Whole}
+use Rattle.day.specs.DayLines.{LinesResult, stopped, events}
+use Rattle.day.specs.DayComputed.{dayEvents, dayAnswer}
+use Rattle.day.specs.DayMeaning.{Whole, DayRefused}
 use Rattle.day.specs.DayMeaning as day-meaning
 use Rattle.day.proofs.Answered as day-answered
 use Rattle.day.proofs.Rows as day-rows
-use Rattle.day.proofs.Rows.{rebuffered}
 use Rattle.work.specs.Count.{fullCount}
 use Rattle.work.specs.Table.{needOf}
 use Rattle.work.specs.TableComputed.{found, block}
@@ -35,7 +35,7 @@ use Rattle.judge.specs.JudgeAnswer.{JudgeAnswer}
 use Rattle.judge.specs.JudgeComputed.{judgeAnswer}
 use Rattle.judge.proofs.Determined.{to-limit}
 use Rattle.job.specs.JobComputed.{refused, listed, limitOf, afterJudge, afterDay, afterRule, isJob, ruleOf, dayOf, jobResult}
-use Rattle.job.specs.JobMeaning.{Parted, DayRefused, BothPassed, JobRefused, no-rule-line, rule-refused, day-refused}
+use Rattle.job.specs.JobMeaning.{Parted, BothPassed, JobRefused, no-rule-line, rule-refused, day-refused}
 use Rattle.job.proofs.Days.{legal-word}
 use Rattle.job.specs.FirstBlock.{heading}
 use Rattle.job.proofs.Listed.{first-block}
@@ -72,9 +72,8 @@ zeros-long n h = omega (arith, length-replicate {A = ℕ} 255 0)
 result-day : {s rule file : List ℕ} {t : Tree} {n p : ℕ} → Parted s rule file → Passed rule t → DayRefused file n p
     → jobResult s ≡ refused n p
 result-day {rule = rule} {file = file} {t = t} {n = n} {p = p} d r m =
-    let z : n ≡ 0 → ⊥ = λ e. omega (arith, m .refused) in
-    let b = rebuffered (replicate 255 0) (replicate 255 0) (m .means) z (m .room) in
-    rule-passed d r ∙ ap (afterDay rule (size t) (specials t)) (sym (day-answered.answer-is b)) ∙ simp (ne-eqb n 0 z)
+    rule-passed d r ∙ ap (afterDay rule (size t) (specials t)) (sym (day-answered.answer-is (day-meaning.file-refused m)))
+    ∙ simp (ne-eqb n 0 (day-rows.refused-number m))
 
 -- ---- the judge
 -- 01, The program: with the limit m × (n + 1) × (n + 2) the work is never above it
@@ -124,31 +123,18 @@ result-refused (day-refused d r m) = result-day d r m
 pub refused-above : {s : List ℕ} {n p : ℕ} → JobRefused s n p → n ≡ 0 → ⊥
 refused-above (no-rule-line h) e = omega arith
 refused-above (rule-refused d m) e = refused-number m e
-refused-above (day-refused d r m) e = omega (arith, m .refused)
+refused-above (day-refused d r m) e = day-rows.refused-number m e
 
 pub data Comes (s : List ℕ) : Type 0 where
   at-row : {n p : ℕ} → JobRefused s n p → Comes s
   at-judge : {t : Tree} {w : Word} → BothPassed s t w → Comes s
 
 comes-day : {s rule file : List ℕ} {t : Tree} → Parted s rule file → Passed rule t → Comes s
-comes-day {rule = rule} {file = file} d p =
-    let z : List ℕ = replicate 255 0 in
-    let a = dayAnswer file z z in
-    let m = day-answered.answer-means file z z in
-    ⊎-elim
-    (λ (e : a .number ≡ 0).
-    let g = day-rows.accepting m e in
-    at-judge (record { rule = rule; file = file; parted = d; passed = p; events = g .events; whole = g .whole; word = refl }))
-    (λ (e : a .number ≡ 0 → ⊥).
-    at-row (day-refused d p
-    (record {
-      refused = omega arith;
-      letters = z;
-      seconds = z;
-      room = (zeros-long 255 (omega arith), zeros-long 255 (omega arith));
-      means = rebuffered z z m e (zeros-long 255 (omega arith), zeros-long 255 (omega arith));
-    })))
-    (same-or-not (a .number) 0)
+comes-day {s} {rule = rule} {file = file} d p = go (dayEvents file) (day-answered.events-read file)
+  where
+    go : (r : LinesResult) → day-answered.Reads file r → Comes s
+    go (stopped r) m = at-row (day-refused d p m)
+    go (events l) w = at-judge (record { rule = rule; file = file; parted = d; passed = p; events = l; whole = w; word = refl })
 
 comes-rule : {s rule file : List ℕ} → Parted s rule file → Comes s
 comes-rule {rule = rule} d =

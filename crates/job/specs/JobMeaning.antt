@@ -11,8 +11,7 @@ use Rattle.regex.specs.Tree.{Tree, size, specials}
 use Rattle.rule.specs.RuleAnswer as reader
 use Rattle.rule.specs.RuleMeaning.{Passed, RuleMeaning}
 use Rattle.day.specs.DayFile.{DayEvent, letterOf}
-use Rattle.day.specs.DayAnswer as day
-use Rattle.day.specs.DayMeaning.{DayMeaning, Whole}
+use Rattle.day.specs.DayMeaning.{DayRefused, Whole}
 use Rattle.work.specs.Span.{Obeys}
 use Rattle.work.specs.Spans.{Spans, InOrder}
 use Rattle.work.specs.SizeOf.{SizeOf}
@@ -24,14 +23,6 @@ use Rattle.job.specs.JobAnswer.{JobAnswer, refusal, acceptance}
 pub record Parted (s rule file : List ℕ) : Type 0 where
   pub text : s ≡ 82 ∷ 9 ∷ rule ++ 10 ∷ file
   pub line : (i : ℕ) → i < length rule → getD rule i 0 ≡ 10 → ⊥
-
--- 01: the day file's row, in which 15 does not come: no buffer is shorter than a day may be
-pub record DayRefused (file : List ℕ) (number place : ℕ) : Type 0 where
-  pub refused : 1 ≤ number
-  pub letters : List ℕ
-  pub seconds : List ℕ
-  pub room : (255 ≤ length letters) × (255 ≤ length seconds)
-  pub means : DayMeaning file letters seconds (day.refusal number place letters seconds)
 
 -- the rule and the day pass their rows: the grammar reads the rule as t, and w is the day's events
 pub record BothPassed (s : List ℕ) (t : Tree) (w : Word) : Type 0 where
@@ -59,7 +50,7 @@ pub data JobRefused (s : List ℕ) : ℕ → ℕ → Type 0 where
   no-rule-line : ((rule file : List ℕ) → Parted s rule file → ⊥) → JobRefused s 16 0
   -- 1 to 6, 20 and 21: the rule text's row
   rule-refused : {rule file : List ℕ} {n p : ℕ} → Parted s rule file → RuleMeaning rule (reader.refusal n p) → JobRefused s n p
-  -- 11 to 14: the day file's row
+  -- 11 to 14: the day file's row, in which 15 does not come: no buffer is shorter than a day may be
   day-refused : {rule file : List ℕ} {t : Tree} {n p : ℕ} → Parted s rule file → Passed rule t → DayRefused file n p → JobRefused s n p
 
 -- what holds of the job s and of the buffer at entry, and the whole answer. None has 7, 8, 9 or 10.
