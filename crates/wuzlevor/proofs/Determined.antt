@@ -19,7 +19,8 @@ use Rattle.job.proofs.Determined as job
 use Rattle.job.specs.JobAnswer.{JobAnswer}
 use Rattle.rewrite.proofs.Answered as rewrite
 use Rattle.rewrite.specs.RewriteAnswer.{RewriteAnswer}
-use Rattle.wuzlevor.specs.ExportComputed.{readRule, readRuleFile, readDay, judgeSpans, judgeRuleFile, runJob, rewriteRule}
+use Rattle.merge.proofs.Answered as merge
+use Rattle.wuzlevor.specs.ExportComputed.{readRule, readRuleFile, readDay, judgeSpans, judgeRuleFile, runJob, rewriteRule, mergeDays}
 use Rattle.wuzlevor.specs.Exported.{ruleTold, RuleExport, rule-short, rule-told}
 use Rattle.wuzlevor.specs.Exported.{fileTold, FileExport, file-short, file-told}
 use Rattle.wuzlevor.specs.Exported.{dayTold, DayExport, day-short, day-told}
@@ -27,6 +28,7 @@ use Rattle.wuzlevor.specs.Exported.{judgeTold, JudgeExport, judge-short,
 use Rattle.wuzlevor.specs.Exported.{JudgeFileExport, judge-file-short, judge-file-told}
 use Rattle.wuzlevor.specs.Exported.{jobTold, JobExport, job-short, job-told}
 use Rattle.wuzlevor.specs.Exported.{rewriteTold, RewriteExport, rewrite-short, rewrite-told}
+use Rattle.wuzlevor.specs.Exported.{MergeExport, merge-short, merge-told}
 
 pub rule-is : {text answer nodes : List ℕ} {e : ℕ × List ℕ × List ℕ} → RuleExport text answer nodes e → e ≡ readRule text answer nodes
 unfolding readRule
@@ -75,3 +77,9 @@ unfolding rewriteRule
 rewrite-is {answer = answer} (rewrite-short h) = simp (lt-ltb (length answer) 5 h)
 rewrite-is {answer = answer} (rewrite-told h m) =
     ap (λ (x : RewriteAnswer). rewriteTold x answer) (rewrite.answer-is m) ∙ simp (le-ltb (length answer) 5 h)
+
+pub merge-is : {first second letters seconds answer : List ℕ} {e : ℕ × List ℕ × List ℕ × List ℕ}
+    → MergeExport first second letters seconds answer e → e ≡ mergeDays first second letters seconds answer
+unfolding mergeDays
+merge-is {answer = answer} (merge-short h) = simp (lt-ltb (length answer) 5 h)
+merge-is {answer = answer} (merge-told h m) = ap (λ (x : DayAnswer). dayTold x answer) (merge.answer-is m) ∙ simp (le-ltb (length answer) 5 h)

@@ -44,7 +44,13 @@ use Rattle.rewrite.specs.RewriteComputed.{rewriteAnswer}
 use Rattle.rewrite.specs.RewriteMeaning.{RewriteMeaning}
 use Rattle.rewrite.specs.declared.Outcome as rewriter
 use Rattle.verdict.specs.declared.Verdict.{Verdict}
+use Rattle.merge.specs.MergeAnswer as merge
+use Rattle.merge.specs.MergeAnswer.{mergeValues}
+use Rattle.merge.specs.MergeComputed.{mergeAnswer}
+use Rattle.merge.specs.MergeMeaning.{MergeMeaning}
+use Rattle.merge.specs.declared.Outcome as merging
 use Rattle.wuzlevor.specs.Told.{over, nodeRow, lineRow, overLines}
+use Rattle.wuzlevor.specs.Exported.{MergeExport, merge-short, merge-told}
 use Rattle.wuzlevor.specs.ExportComputed.{verdictRow, LinesFit}
 use Rattle.wuzlevor.specs.Exported.{unanswered, ruleTold, RuleExport, rule-short, rule-told}
 use Rattle.wuzlevor.specs.Exported.{fileTold, FileExport, file-short, file-told}
@@ -53,7 +59,7 @@ use Rattle.wuzlevor.specs.Exported.{judgeTold, JudgeExport, judge-short,
 use Rattle.wuzlevor.specs.Exported.{JudgeFileExport, judge-file-short, judge-file-told}
 use Rattle.wuzlevor.specs.Exported.{jobTold, JobExport, job-short, job-told}
 use Rattle.wuzlevor.specs.Exported.{rewriteTold, RewriteExport, rewrite-short, rewrite-told}
-use Rattle.wuzlevor.specs.ExportComputed.{readRule, readRuleFile, readDay, judgeSpans, judgeRuleFile, runJob, rewriteRule}
+use Rattle.wuzlevor.specs.ExportComputed.{readRule, readRuleFile, readDay, judgeSpans, judgeRuleFile, runJob, rewriteRule, mergeDays}
 
 -- the two clauses of a contract, for an effect b that tells the answer x
 both : {B : Type 0} (P : B → Type 0) {b x y : B} → b ≡ x → x ≡ y → P x → (b ≡ y) × P b
@@ -122,6 +128,14 @@ module _ {file answer lines nodes : List ℕ} where
       (file-told h i j means)
 
 -- ---- wuz_read_day
+-- a verdict and n, written, with the two buffers
+day-written : (ls ss answer : List ℕ) {a : List ℕ} {v u : Verdict} {n k : ℕ} → v ≡ u → n ≡ k → a ≡ over (verdictRow v ++ n ∷ []) answer
+    → (v .number, ls, ss, a) ≡ dayTold (day.told u k ls ss) answer
+day-written ls ss answer {a} {v} {u} {n} s e w =
+    ap (λ (x : List ℕ). (v .number, ls, ss, x)) w
+    ∙ ap (λ (x : Verdict). (x .number, ls, ss, over (verdictRow x ++ n ∷ []) answer)) s
+    ∙ ap (λ (x : ℕ). dayTold (day.told u x ls ss) answer) e
+
 module _ {file letters seconds answer : List ℕ} where
   pub day-returns : length answer < 5 → ((unanswered, letters, seconds, answer) ≡ readDay file letters seconds answer)
       × DayExport file letters seconds answer (unanswered, letters, seconds, answer)
@@ -135,10 +149,7 @@ module _ {file letters seconds answer : List ℕ} where
       × DayExport file letters seconds answer (v .number, ls, ss, a)
   unfolding readDay
   day-writes {ls} {ss} {a} {v} {n} o h e means s en w =
-      both (DayExport file letters seconds answer)
-      (ap (λ (x : List ℕ). (v .number, ls, ss, x)) w
-      ∙ ap (λ (x : Verdict). (x .number, ls, ss, over (verdictRow x ++ n ∷ []) answer)) s
-      ∙ ap (λ (x : ℕ). dayTold (day.told (day.outcomeVerdict o) x ls ss) answer) en)
+      both (DayExport file letters seconds answer) (day-written ls ss answer s en w)
       (ap (λ (x : DayAnswer). dayTold x answer) e ∙ simp (le-ltb (length answer) 5 h))
       (day-told h means)
 
@@ -215,3 +226,21 @@ module _ {text out answer : List ℕ} where
       ∙ ap (λ (x : ℕ). rewriteTold (rewrite.told (rewrite.outcomeVerdict o) x b) answer) en)
       (ap (λ (x : RewriteAnswer). rewriteTold x answer) e ∙ simp (le-ltb (length answer) 5 h))
       (rewrite-told h means)
+
+-- ---- wuz_merge_days
+module _ {first second letters seconds answer : List ℕ} where
+  pub merge-returns : length answer < 5 → ((unanswered, letters, seconds, answer) ≡ mergeDays first second letters seconds answer)
+      × MergeExport first second letters seconds answer (unanswered, letters, seconds, answer)
+  unfolding mergeDays
+  merge-returns h = (simp (lt-ltb (length answer) 5 h), merge-short h)
+
+  pub merge-writes : {ls ss a : List ℕ} {v : Verdict} {n : ℕ} (o : merging.Outcome) → 5 ≤ length answer
+      → mergeValues o ls ss ≡ mergeAnswer first second letters seconds → MergeMeaning first second letters seconds (mergeValues o ls ss)
+      → v ≡ merge.outcomeVerdict o → n ≡ merge.eventCount o → a ≡ over (verdictRow v ++ n ∷ []) answer
+      → ((v .number, ls, ss, a) ≡ mergeDays first second letters seconds answer)
+      × MergeExport first second letters seconds answer (v .number, ls, ss, a)
+  unfolding mergeDays
+  merge-writes {ls} {ss} o h e means s en w =
+      both (MergeExport first second letters seconds answer) (day-written ls ss answer s en w)
+      (ap (λ (x : DayAnswer). dayTold x answer) e ∙ simp (le-ltb (length answer) 5 h))
+      (merge-told h means)

@@ -1,6 +1,6 @@
 -- What each call of the C interface returns and leaves in the buffers lent to it, computed. Assumes nothing.
--- That nothing else has `RuleExport`, `FileExport`, `DayExport`, `JudgeExport`, `JudgeFileExport`, `JobExport`, `RewriteExport` is `rule-is`,
--- `file-is`, `day-is`, `judge-is`, `judge-file-is`, `job-is`, `rewrite-is` in proofs/Determined.
+-- That nothing else has `RuleExport`, `FileExport`, `DayExport`, `JudgeExport`, `JudgeFileExport`, `JobExport`, `RewriteExport`, `MergeExport`
+-- is `rule-is`, `file-is`, `day-is`, `judge-is`, `judge-file-is`, `job-is`, `rewrite-is`, `merge-is` in proofs/Determined.
 use Prim.Native.Nat.{ℕ, _≤_, _<_}
 use mathlib.Core.Path.{_≡_}
 use mathlib.Core.Bool.{cond, _||_}
@@ -17,6 +17,7 @@ use Rattle.judge.specs.JudgeComputed.{judgeAnswer}
 use Rattle.judge.specs.JudgeFileComputed.{judgeFileAnswer}
 use Rattle.job.specs.JobComputed.{jobAnswer}
 use Rattle.rewrite.specs.RewriteComputed.{rewriteAnswer}
+use Rattle.merge.specs.MergeComputed.{mergeAnswer}
 use Rattle.wuzlevor.specs.Exported.{unanswered, ruleTold, fileTold, dayTold, judgeTold, jobTold, rewriteTold}
 
 -- of a text and the two buffers at entry
@@ -52,6 +53,11 @@ runJob job out answer = cond (ltb (length answer) 5) (unanswered, out, answer) (
 -- of a rule text and the two buffers at entry
 unfoldable pub rewriteRule : List ℕ → List ℕ → List ℕ → ℕ × List ℕ × List ℕ
 rewriteRule text out answer = cond (ltb (length answer) 5) (unanswered, out, answer) (rewriteTold (rewriteAnswer text out) answer)
+
+-- of two files and the three buffers at entry
+unfoldable pub mergeDays : List ℕ → List ℕ → List ℕ → List ℕ → List ℕ → ℕ × List ℕ × List ℕ × List ℕ
+mergeDays first second letters seconds answer =
+    cond (ltb (length answer) 5) (unanswered, letters, seconds, answer) (dayTold (mergeAnswer first second letters seconds) answer)
 
 -- ---- what the functions write
 

@@ -18,6 +18,7 @@ use Rattle.job.specs.JobAnswer.{JobAnswer}
 use Rattle.job.specs.JobMeaning.{JobMeaning}
 use Rattle.rewrite.specs.RewriteAnswer.{RewriteAnswer}
 use Rattle.rewrite.specs.RewriteMeaning.{RewriteMeaning}
+use Rattle.merge.specs.MergeMeaning.{MergeMeaning}
 use Rattle.wuzlevor.specs.Told.{over, lineRow, overLines, ruleRow, ruleNodes, fileRow, linesOf, dayRow, judgeRow, jobRow, rewriteRow}
 
 -- WUZ_UNANSWERED, the greatest 64-bit number
@@ -88,3 +89,9 @@ rewriteTold a answer = (a .number, a .out, over (rewriteRow a) answer)
 pub data RewriteExport (text out answer : List ℕ) : ℕ × List ℕ × List ℕ → Type 0 where
   rewrite-short : length answer < 5 → RewriteExport text out answer (unanswered, out, answer)
   rewrite-told : {a : RewriteAnswer} → 5 ≤ length answer → RewriteMeaning text out a → RewriteExport text out answer (rewriteTold a answer)
+
+-- ---- wuz_merge_days: what is returned, and the buffers `letters`, `seconds` and `answer`; of two files and the three buffers at entry
+pub data MergeExport (first second letters seconds answer : List ℕ) : ℕ × List ℕ × List ℕ × List ℕ → Type 0 where
+  merge-short : length answer < 5 → MergeExport first second letters seconds answer (unanswered, letters, seconds, answer)
+  merge-told : {a : DayAnswer} → 5 ≤ length answer → MergeMeaning first second letters seconds a
+      → MergeExport first second letters seconds answer (dayTold a answer)

@@ -4,8 +4,8 @@ mod row;
 
 use verdict::Verdict;
 ghost use mathlib.Core.Path.{_≡_};
-ghost use Rattle.wuzlevor.specs.Exported.{RuleExport, FileExport, DayExport, JudgeExport, JudgeFileExport, JobExport, RewriteExport};
-ghost use Rattle.wuzlevor.specs.ExportComputed.{readRule, readRuleFile, readDay, judgeSpans, judgeRuleFile, runJob, rewriteRule};
+ghost use Rattle.wuzlevor.specs.Exported.{RuleExport, FileExport, DayExport, JudgeExport, JudgeFileExport, JobExport, RewriteExport, MergeExport};
+ghost use Rattle.wuzlevor.specs.ExportComputed.{readRule, readRuleFile, readDay, judgeSpans, judgeRuleFile, runJob, rewriteRule, mergeDays};
 
 // The elements that each call writes to its answer, and those that `nodes` and `lines` must have.
 const RULE_ANSWER: usize = 6;
@@ -19,6 +19,8 @@ const JUDGE_ANSWER: usize = 4;
 const JOB_ANSWER: usize = 5;
 
 const REWRITE_ANSWER: usize = 5;
+
+const MERGE_ANSWER: usize = 5;
 
 const NODES: usize = 128;
 
@@ -190,5 +192,30 @@ pub extern "C" fn wuz_rewrite_rule(text: &[u8], out: &mut [u8], answer: &mut [u6
     let said = rewrite::outcome_verdict(outcome);
     let length = rewrite::text_length(outcome);
     row::write_five(answer, said, length as u64);
+    said.number
+}
+
+// Merges two day files.
+#[no_mangle]
+pub extern "C" fn wuz_merge_days(
+    first: &[u8],
+    second: &[u8],
+    letters: &mut [u8],
+    seconds: &mut [u32],
+    answer: &mut [u64],
+) -> u64
+    ensures value { λ r. ⌜ (r, now (letters .exit), now (seconds .exit), now (answer .exit))
+        ≡ mergeDays (now (first .entry)) (now (second .entry)) (now (letters .entry)) (now (seconds .entry)) (now (answer .entry)) ⌝ }
+    ensures meaning { λ r. ⌜
+        MergeExport (now (first .entry)) (now (second .entry)) (now (letters .entry)) (now (seconds .entry)) (now (answer .entry))
+        (r, now (letters .exit), now (seconds .exit), now (answer .exit)) ⌝ }
+{
+    if answer.len() < MERGE_ANSWER {
+        return UNANSWERED;
+    }
+    let outcome = merge::merge(first, second, letters, seconds);
+    let said = merge::outcome_verdict(outcome);
+    let events = merge::event_count(outcome);
+    row::write_five(answer, said, events as u64);
     said.number
 }
