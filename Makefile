@@ -49,7 +49,7 @@ second:
 SEED ?= 2
 N ?= 200000
 compare:
-	scripts/compare_definitions $(SEED) 400 400
+	scripts/compare_definitions $(SEED) 400 400 400
 	rt check case_runner checker
 	scripts/compare_answers $(SEED) 100
 	rt staticlib wuzlevor

@@ -1,11 +1,12 @@
-//! The lines that the commands `cases` and `readings` print.
+//! The lines that the commands `cases`, `readings` and `merges` print.
 
+use crate::day::{self, Record};
 use crate::generate::{alphabet, change_byte, random_byte, sentence, spoil_leaf, word, Bounds};
 use crate::judge::judge;
 use crate::limits::{MAX_NODES, MAX_RULE_BYTES, MAX_SPECIAL, MAX_WORD};
 use crate::random::Random;
 use crate::random_stars::repeat_stars;
-use crate::{printed, rule, table};
+use crate::{merge, printed, random_merges, rule, table};
 
 /// One line of the command `cases`: rule text, word, found spans, full work count, m and k.
 pub fn case_line(random: &mut Random, rule_bytes: usize, word_length: usize) -> String {
@@ -34,6 +35,27 @@ pub fn reading_line(random: &mut Random, most_bytes: usize) -> String {
     let (verdict, reading) = printed::reading(&text);
     let text = as_text(&text);
     format!("{text}\t{verdict}\t{reading}\n")
+}
+
+/// One line of the command `merges`: the events of two days, and those of both merged.
+pub fn merge_line(random: &mut Random) -> String {
+    let days = random_merges::few(random);
+    let days = days.each_ref().map(Vec::as_slice);
+    let merged = merge::merged(days).expect("two short good days can be merged");
+    let merged = merged
+        .iter()
+        .map(|event| format!("{}/{}", event.file + 1, shown_record(&event.record)));
+    let merged = printed::list(merged, ";");
+    let [first, second] = days.map(|day| {
+        let records = day::records(day).expect("the days are good");
+        printed::list(records.iter().map(shown_record), ";")
+    });
+    format!("{first}\t{second}\t{merged}\n")
+}
+
+/// An event as `second:letter`.
+fn shown_record(record: &Record) -> String {
+    format!("{}:{}", record.second, char::from(record.letter))
 }
 
 /// A random text: bytes without a plan, a sentence, or a sentence with a few bytes changed, with a

@@ -3,18 +3,32 @@
 use crate::limits::{is_event, LAST_SECOND, MAX_DAY_BYTES, MAX_DAY_LINES, MAX_SECOND_DIGITS};
 use crate::refusal::{Reason, Refusal};
 
-/// What one line holds.
-struct Record {
-    second: u32,
-    letter: u8,
+/// What one line holds: an event and its second.
+#[derive(Clone, Copy, Debug, PartialEq, Eq)]
+pub struct Record {
+    pub second: u32,
+    pub letter: u8,
 }
 
 /// Reads a day into the two buffers and gives n; a refused day changes neither.
 pub fn read(bytes: &[u8], letters: &mut [u8], seconds: &mut [u32]) -> Result<usize, Refusal> {
+    write(&records(bytes)?, letters, seconds)
+}
+
+/// The records of a day in line order, or why it is refused; no buffer is judged.
+pub fn records(bytes: &[u8]) -> Result<Vec<Record>, Refusal> {
     if bytes.len() > MAX_DAY_BYTES {
         return Err(Refusal::without_place(Reason::DayTooLong));
     }
-    let records = read_lines(bytes)?;
+    read_lines(bytes)
+}
+
+/// Writes records into the two buffers and gives n; where one is too short neither changes.
+pub fn write(
+    records: &[Record],
+    letters: &mut [u8],
+    seconds: &mut [u32],
+) -> Result<usize, Refusal> {
     let n = records.len();
     if letters.len() < n || seconds.len() < n {
         return Err(Refusal::without_place(Reason::BufferTooShort));

@@ -56,8 +56,15 @@ const SECONDS: [usize; 16] = [
     0, 1, 9, 10, 99, 100, 255, 256, 999, 1_000, 9_999, 10_000, 32_768, 65_535, 65_536, 79_999,
 ];
 
-/// All the days, one group after another.
+/// All the days with buffers, one group after another.
 pub fn cases() -> Vec<Case> {
+    let mut cases: Vec<Case> = days().into_iter().map(with_enough).collect();
+    cases.extend(about_buffers());
+    cases
+}
+
+/// All the days about which no buffer matters.
+pub fn days() -> Vec<Vec<u8>> {
     let mut days: Vec<Vec<u8>> = SHORT.map(<[u8]>::to_vec).to_vec();
     days.extend(SECONDS.map(|second| joined(&[good_line(second, b'q')])));
     days.extend(hour_edges::days());
@@ -67,9 +74,7 @@ pub fn cases() -> Vec<Case> {
     days.extend(letter_edges::ENDS.into_iter().flat_map(letter_edges::days));
     days.extend(many_lines());
     days.extend(many_bytes());
-    let mut cases: Vec<Case> = days.into_iter().map(with_enough).collect();
-    cases.extend(about_buffers());
-    cases
+    days
 }
 
 /// A day with buffers that are longer than it needs, by one letter and two seconds.

@@ -38,6 +38,9 @@ pub const MAX_DAY_BYTES: usize = 2_550;
 /// The most lines of a day file; each one is an event of the word.
 pub const MAX_DAY_LINES: usize = MAX_WORD;
 
+/// The most events of two merged days together, which are a word, too.
+pub const MAX_MERGED: usize = MAX_WORD;
+
 /// The most digits of a second.
 pub const MAX_SECOND_DIGITS: usize = 5;
 

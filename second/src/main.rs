@@ -13,6 +13,7 @@ use second::{answers, cases, draw, edges, job, stream};
 const USAGE: &str = "usage: second < JOB
        second cases SEED COUNT MAX_RULE_BYTES MAX_WORD
        second readings SEED COUNT MAX_BYTES
+       second merges SEED COUNT
        second answers < CASES
        second edges rules|days|judge|judge-large|known|numbers
        second draw SEED COUNT readers|judge|numbers";
@@ -43,6 +44,7 @@ fn run_command(arguments: &[&str]) -> Option<io::Result<ExitCode>> {
             let line = |random: &mut Random| cases::reading_line(random, bytes);
             print_lines(number(seed)?, number(count)?, line)
         }
+        ["merges", seed, count] => print_lines(number(seed)?, number(count)?, cases::merge_line),
         ["answers"] => return Some(answer_cases()),
         ["edges", name] => print_cases(&edges::named(name)?),
         ["draw", seed, count, kind] => {

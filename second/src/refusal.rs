@@ -26,6 +26,8 @@ pub enum Reason {
     /// Of a letter in brackets and the one before it.
     LetterNotAbove = 20,
     StarAfterStar = 21,
+    /// Of two days that are merged, together.
+    TooManyEvents = 22,
 }
 
 /// A reason with the place it names.

@@ -1,4 +1,4 @@
-//! The commands `cases` and `readings`: the form of their lines, and that a seed fixes them.
+//! The commands `cases`, `readings` and `merges`: the form of their lines, and that a seed fixes them.
 
 use std::process::{Command, Output};
 
@@ -153,8 +153,59 @@ fn readings_print_the_records_as_offset_and_kind() {
     }
 }
 
+/// The items of a list as `second:letter` with what stands before it, in order.
+fn events(list: &str) -> Vec<&str> {
+    match list {
+        "-" => Vec::new(),
+        _ => list.split(';').collect(),
+    }
+}
+
+/// The second of an event.
+fn second_of(event: &str) -> u32 {
+    let (second, letter) = event.split_once(':').unwrap();
+    assert!(matches!(letter.as_bytes(), [letter] if letter.is_ascii_alphabetic()));
+    second.parse().unwrap()
+}
+
+#[test]
+fn merges_hold_two_days_and_both_together() {
+    let lines = fields("merges 4 3000");
+    assert_eq!(lines.len(), 3000);
+    let (mut ties, mut empty, mut doubles) = (0, 0, 0);
+    for line in &lines {
+        let [first, second, merged] = &line[..] else {
+            panic!("{line:?}")
+        };
+        let (first, second, merged) = (events(first), events(second), events(merged));
+        assert!(first.len() <= 6 && second.len() <= 6);
+        for day in [&first, &second] {
+            assert!(day.is_sorted_by_key(|event| second_of(event)));
+            assert!(day.iter().all(|event| second_of(event) <= 89_999));
+        }
+        // By rising second, and at equal seconds all of the first file's before the second's.
+        let split = merged.iter().map(|event| event.split_once('/').unwrap());
+        let split: Vec<(&str, &str)> = split.collect();
+        assert!(split.is_sorted_by_key(|(file, event)| (second_of(event), *file)));
+        for (file, day) in [("1", &first), ("2", &second)] {
+            let own = split.iter().filter(|event| event.0 == file);
+            assert_eq!(own.map(|event| event.1).collect::<Vec<_>>(), *day);
+        }
+        assert_eq!(merged.len(), first.len() + second.len());
+        let in_second = |event: &&str| second.iter().any(|e| second_of(e) == second_of(event));
+        ties += usize::from(first.iter().any(in_second));
+        doubles += usize::from(first.iter().any(|event| second.contains(event)));
+        empty += usize::from(first.is_empty() || second.is_empty());
+    }
+    assert!(ties > 1_500 && doubles > 500, "{ties}, {doubles}");
+    assert!((300..1_500).contains(&empty), "{empty}");
+    assert!(lines.iter().any(|line| line[..] == ["-", "-", "-"]));
+}
+
 #[test]
 fn a_seed_fixes_the_lines() {
+    assert_eq!(run("merges 1 50").stdout, run("merges 1 50").stdout);
+    assert_ne!(run("merges 1 50").stdout, run("merges 2 50").stdout);
     assert_eq!(run("cases 1 50 20 5").stdout, run("cases 1 50 20 5").stdout);
     assert_ne!(run("cases 1 50 20 5").stdout, run("cases 2 50 20 5").stdout);
     assert_eq!(
@@ -174,6 +225,10 @@ fn wrong_arguments_are_told_the_usage() {
         "cases 1 2 3",
         "cases 1 2 3 x",
         "readings 1 2",
+        "merges",
+        "merges 1",
+        "merges 1 x",
+        "merges 1 2 3",
         "what 1 2 3 4",
         "cases 1 2 3 4 5",
     ] {

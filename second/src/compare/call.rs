@@ -1,9 +1,10 @@
-//! The seven calls of the C interface, with every buffer as a slice.
+//! The eight calls of the C interface, with every buffer as a slice.
 
 use std::fmt;
 
 use super::hours::Hours;
 use super::letters::Letters;
+use super::merges::Merges;
 use super::names::{self, Names};
 use super::sets::Sets;
 use super::stars::Stars;
@@ -65,6 +66,13 @@ pub enum Call<'a> {
         out: &'a mut [u8],
         answer: &'a mut [u64],
     },
+    MergeDays {
+        first: &'a [u8],
+        second: &'a [u8],
+        letters: &'a mut [u8],
+        seconds: &'a mut [u32],
+        answer: &'a mut [u64],
+    },
 }
 
 /// A library that does the calls and gives what each returns; the text names the case, for messages
@@ -81,6 +89,7 @@ pub enum Callee {
     ReadRuleFile,
     JudgeRuleFile,
     RewriteRule,
+    MergeDays,
     Program,
     /// The program while something happens to its standard input or output.
     Troubled,
@@ -108,6 +117,8 @@ pub enum Kind {
     ShownSets(Sets),
     /// Besides its number it shows this of stars in a row.
     ShownStars(Stars),
+    /// Besides its number it shows this of the merging of two days.
+    ShownMerges(Merges),
     /// This happens to the program.
     Trouble(Trouble),
 }
@@ -133,6 +144,7 @@ impl fmt::Display for Kind {
             Kind::ShownHours(hours) => hours.fmt(formatter),
             Kind::ShownSets(sets) => sets.fmt(formatter),
             Kind::ShownStars(stars) => stars.fmt(formatter),
+            Kind::ShownMerges(merges) => merges.fmt(formatter),
             Kind::Trouble(trouble) => trouble.fmt(formatter),
         }
     }
@@ -140,7 +152,7 @@ impl fmt::Display for Kind {
 
 impl Callee {
     /// The calls of the library.
-    pub const LIBRARY: [Callee; 7] = [
+    pub const LIBRARY: [Callee; 8] = [
         Callee::ReadRule,
         Callee::ReadDay,
         Callee::Judge,
@@ -148,13 +160,18 @@ impl Callee {
         Callee::ReadRuleFile,
         Callee::JudgeRuleFile,
         Callee::RewriteRule,
+        Callee::MergeDays,
     ];
 
     /// How many elements of its answer a call writes; the program has no such buffer.
     pub fn answer_length(self) -> usize {
         match self {
             Callee::ReadRule => 6,
-            Callee::ReadDay | Callee::RunJob | Callee::ReadRuleFile | Callee::RewriteRule => 5,
+            Callee::ReadDay
+            | Callee::RunJob
+            | Callee::ReadRuleFile
+            | Callee::RewriteRule
+            | Callee::MergeDays => 5,
             Callee::Judge | Callee::JudgeRuleFile => 4,
             Callee::Program | Callee::Troubled => 0,
         }
@@ -170,6 +187,7 @@ impl Callee {
             Callee::ReadRuleFile => (0..=6).chain(16..=21).collect(),
             Callee::JudgeRuleFile => (0..=10).chain(16..=21).collect(),
             Callee::RewriteRule => (0..=6).chain([15, 20]).collect(),
+            Callee::MergeDays => [0].into_iter().chain(11..=15).chain([22]).collect(),
             // The program's own buffer takes every text, so it never gives 15.
             Callee::Program => (0..=6).chain(11..=14).chain([16, 20, 21]).collect(),
             Callee::Troubled => return Trouble::ALL.map(Kind::Trouble).to_vec(),
@@ -181,7 +199,9 @@ impl Callee {
         let hours = Hours::of(self).iter().copied().map(Kind::ShownHours);
         let sets = Sets::of(self).iter().copied().map(Kind::ShownSets);
         let stars = Stars::of(self).iter().copied().map(Kind::ShownStars);
-        let shown = letters.chain(names).chain(hours).chain(sets).chain(stars);
+        let merges = Merges::of(self).iter().copied().map(Kind::ShownMerges);
+        let shown = letters.chain(names).chain(hours).chain(sets);
+        let shown = shown.chain(stars).chain(merges);
         numbers.chain(unanswered).chain(shown).collect()
     }
 
@@ -210,6 +230,7 @@ impl fmt::Display for Callee {
             Callee::ReadRuleFile => "wuz_read_rule_file",
             Callee::JudgeRuleFile => "wuz_judge_rule_file",
             Callee::RewriteRule => "wuz_rewrite_rule",
+            Callee::MergeDays => "wuz_merge_days",
             Callee::Program => "the program",
             Callee::Troubled => "the program in trouble",
         })

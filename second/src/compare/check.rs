@@ -5,7 +5,7 @@ use super::call::{Call, Callee, Kind, Library, UNANSWERED};
 use super::lent::{Difference, Dirt, Lent, Side};
 use super::reference;
 use super::request::{Asked, Request};
-use super::{hours, letters, names, sets, stars};
+use super::{hours, letters, merges, names, sets, stars};
 
 /// What came of one comparison.
 pub struct Checked {
@@ -44,8 +44,10 @@ fn shown(asked: &Asked, number: u32, place: usize) -> Vec<Kind> {
     let sets = sets.into_iter().map(Kind::ShownSets);
     let stars = stars::shown(asked, number);
     let stars = stars.into_iter().map(Kind::ShownStars);
+    let merges = merges::shown(asked, number);
+    let merges = merges.into_iter().map(Kind::ShownMerges);
     let shown = letters.chain(names).chain(hours).chain(sets);
-    shown.chain(stars).collect()
+    shown.chain(stars).chain(merges).collect()
 }
 
 /// What is wrong with the number that a call returned.
@@ -69,7 +71,8 @@ fn shown_returned(number: u64) -> String {
 struct Buffers {
     /// What is read first: a rule text, a day file, a job or a rule file.
     first: Lent<u8>,
-    word: Lent<u8>,
+    /// What is read besides: a word, or the second of two day files.
+    second: Lent<u8>,
     /// The letters of a day, the text of a job or a rewritten rule.
     bytes: Lent<u8>,
     seconds: Lent<u32>,
@@ -104,7 +107,7 @@ impl Buffers {
                 rule, word, table, ..
             } => {
                 buffers.first = Lent::holding("rule", rule, dirt);
-                buffers.word = Lent::holding("word", word, dirt);
+                buffers.second = Lent::holding("word", word, dirt);
                 buffers.numbers = Lent::dirty("table", *table, dirt);
             }
             Asked::Job { job, out } => {
@@ -120,12 +123,22 @@ impl Buffers {
                 file, word, table, ..
             } => {
                 buffers.first = Lent::holding("file", file, dirt);
-                buffers.word = Lent::holding("word", word, dirt);
+                buffers.second = Lent::holding("word", word, dirt);
                 buffers.numbers = Lent::dirty("table", *table, dirt);
             }
             Asked::Rewriting { text, out } => {
                 buffers.first = Lent::holding("text", text, dirt);
                 buffers.bytes = Lent::dirty("out", *out, dirt);
+            }
+            Asked::Merging {
+                files: [first, second],
+                letters,
+                seconds,
+            } => {
+                buffers.first = Lent::holding("first", first, dirt);
+                buffers.second = Lent::holding("second", second, dirt);
+                buffers.bytes = Lent::dirty("letters", *letters, dirt);
+                buffers.seconds = Lent::dirty("seconds", *seconds, dirt);
             }
         }
         buffers
@@ -138,7 +151,7 @@ impl Buffers {
         let dirt = Dirt::Ones;
         Buffers {
             first: Lent::dirty(NONE, 0, dirt),
-            word: Lent::dirty(NONE, 0, dirt),
+            second: Lent::dirty(NONE, 0, dirt),
             bytes: Lent::dirty(NONE, 0, dirt),
             seconds: Lent::dirty(NONE, 0, dirt),
             lines: Lent::dirty(NONE, 0, dirt),
@@ -165,7 +178,7 @@ impl Buffers {
             },
             Asked::Judge { limit, .. } => Call::Judge {
                 rule: first,
-                word: self.word.side(side),
+                word: self.second.side(side),
                 limit,
                 table: self.numbers.side(side),
                 answer,
@@ -183,7 +196,7 @@ impl Buffers {
             },
             Asked::JudgeFile { limit, .. } => Call::JudgeRuleFile {
                 file: first,
-                word: self.word.side(side),
+                word: self.second.side(side),
                 limit,
                 table: self.numbers.side(side),
                 answer,
@@ -191,6 +204,13 @@ impl Buffers {
             Asked::Rewriting { .. } => Call::RewriteRule {
                 text: first,
                 out: self.bytes.side(side),
+                answer,
+            },
+            Asked::Merging { .. } => Call::MergeDays {
+                first,
+                second: self.second.side(side),
+                letters: self.bytes.side(side),
+                seconds: self.seconds.side(side),
                 answer,
             },
         }
@@ -209,6 +229,6 @@ impl Buffers {
             .or_else(|| self.bytes.difference())
             .or_else(|| self.seconds.difference())
             .or_else(|| self.first.difference())
-            .or_else(|| self.word.difference())
+            .or_else(|| self.second.difference())
     }
 }

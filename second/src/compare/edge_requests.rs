@@ -1,13 +1,14 @@
 //! The edges as requests to the library: the streams of `second edges`, jobs, every byte where an
-//! event can stand, every two bytes in brackets, rule files, and rewritings with every short text
-//! of stars.
+//! event can stand, every two bytes in brackets, rule files, rewritings with every short text of
+//! stars, and mergings.
 
 use super::call::{Callee, FILE_LINES, FILE_NODES, NODES};
 use super::lent::Dirt;
 use super::request::{Asked, Request};
-use super::{job_edges, rewritings, rule_file_requests};
-use crate::limits::LETTERS;
-use crate::{edges, job, letter_edges, rule_file_lines, set_edges, star_edges, stars, table};
+use super::{job_edges, mergings, rewritings, rule_file_requests};
+use crate::limits::{LETTERS, MAX_MERGED};
+use crate::{day_edges, edges, job, letter_edges};
+use crate::{rule_file_lines, set_edges, star_edges, stars, table};
 
 /// The streams of cases that `second edges` prints, but for `numbers`, which has none with a call.
 const STREAMS: [&str; 5] = ["rules", "days", "judge", "judge-large", "known"];
@@ -37,12 +38,15 @@ pub fn requests() -> Vec<Request> {
     requests.extend(jobs.flat_map(in_all_dirt));
     // So many that each comes in ones or in noise alone, by turns.
     let calls = (0..=255).flat_map(with_byte);
-    let calls = calls.chain(about_sets()).chain(about_stars()).enumerate();
+    let calls = calls.chain(about_sets()).chain(about_stars());
+    let calls = calls.chain(in_merged_days()).enumerate();
     requests.extend(calls.map(|(index, asked)| in_one_dirt(asked, index)));
     requests.extend(rewritings::calls().flat_map(in_all_dirt));
+    requests.extend(mergings::refusals().flat_map(in_all_dirt));
     requests.extend(PLAIN_NAMES.into_iter().flat_map(with_plain_name));
-    // Two neighbours are about one file, and come in the same dirt.
-    let calls = rule_file_requests::calls().into_iter().enumerate();
+    // Two neighbours are about one file, or one pair of files, and come in the same dirt.
+    let calls = rule_file_requests::calls().into_iter();
+    let calls = calls.chain(mergings::calls()).enumerate();
     requests.extend(calls.map(|(index, asked)| in_one_dirt(asked, index / 2)));
     requests.extend(too_short_to_answer());
     requests.extend(too_short_for_lines());
@@ -139,13 +143,21 @@ fn with_byte(byte: u8) -> Vec<Asked> {
     }
     for file in letter_edges::days(byte) {
         calls.push(with_room(job_edges::job(b"!a", &file)));
+        calls.extend(mergings::in_either_file(&file));
         calls.push(Asked::Day {
             file,
             letters: LINES,
             seconds: LINES,
         });
     }
+    calls.extend(mergings::with_byte(byte));
     calls
+}
+
+/// The days of the stream, each in the first file and in the second.
+fn in_merged_days() -> impl Iterator<Item = Asked> {
+    let days = day_edges::days().into_iter();
+    days.flat_map(|day| mergings::in_either_file(&day))
 }
 
 /// The rules about sets where the streams do not have them.
@@ -236,6 +248,22 @@ fn too_short_for_lines() -> Vec<Request> {
     requests
 }
 
+/// Mergings that are accepted, and refused for each file, by 22 and by 15.
+fn good_and_bad_mergings() -> impl Iterator<Item = Asked> {
+    let (good, bad, full) = (b"E\t0\ta\n", b"E\t0\t_\n", b"E\t0\ta\n".repeat(MAX_MERGED));
+    let pairs: [[&[u8]; 2]; 4] = [[good, good], [bad, good], [good, bad], [&full, good]];
+    let pairs = pairs.map(|pair| pair.map(<[u8]>::to_vec));
+    let too_short = Asked::Merging {
+        files: pairs[0].clone(),
+        letters: 1,
+        seconds: 1,
+    };
+    pairs
+        .into_iter()
+        .map(mergings::with_room)
+        .chain([too_short])
+}
+
 /// For each call one that is accepted and one that is refused.
 fn good_and_bad_calls() -> Vec<Asked> {
     let mut calls = Vec::new();
@@ -277,5 +305,6 @@ fn good_and_bad_calls() -> Vec<Asked> {
             seconds: LINES,
         });
     }
+    calls.extend(good_and_bad_mergings());
     calls
 }

@@ -4,6 +4,7 @@ use std::fmt;
 use std::ops::RangeInclusive;
 
 use super::call::Callee;
+use super::mergings::decisive;
 use super::request::Asked;
 use crate::job;
 use crate::limits::LAST_SECOND;
@@ -25,7 +26,7 @@ impl Hours {
     /// What the cases of a callee have to show.
     pub fn of(callee: Callee) -> &'static [Hours] {
         match callee {
-            Callee::ReadDay | Callee::RunJob | Callee::Program => {
+            Callee::ReadDay | Callee::RunJob | Callee::MergeDays | Callee::Program => {
                 &[Hours::InLast, Hours::AfterLast]
             }
             _ => &[],
@@ -47,6 +48,7 @@ pub fn shown(asked: &Asked, number: u32, place: usize) -> Option<Hours> {
     match asked {
         Asked::Day { file, .. } => shown_by_day(file, number, place),
         Asked::Job { job, .. } => shown_by_job(job, number, place),
+        Asked::Merging { files, .. } => shown_by_day(&decisive(files), number, place),
         _ => None,
     }
 }

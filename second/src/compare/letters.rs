@@ -4,6 +4,7 @@ use std::fmt;
 use std::ops::RangeInclusive;
 
 use super::call::Callee;
+use super::mergings;
 use super::request::Asked;
 use crate::refusal::Reason;
 use crate::{day, job, named_rule, rule_file};
@@ -34,7 +35,7 @@ impl Letters {
             Callee::ReadRule | Callee::ReadRuleFile | Callee::RewriteRule => {
                 &[CapitalInRule, BetweenInRule]
             }
-            Callee::ReadDay => &[CapitalInDay, BetweenInDay],
+            Callee::ReadDay | Callee::MergeDays => &[CapitalInDay, BetweenInDay],
             Callee::Judge | Callee::JudgeRuleFile => {
                 &[CapitalInRule, CapitalInWord, BetweenInRule, BetweenInWord]
             }
@@ -62,9 +63,14 @@ impl fmt::Display for Letters {
 /// What a call shows if such a number and place should come.
 pub fn shown(asked: &Asked, number: u32, place: usize) -> Vec<Letters> {
     let mut parts = Parts::default();
+    let merged;
     match asked {
         Asked::Rule { text, .. } | Asked::Rewriting { text, .. } => parts.rule = text,
         Asked::Day { file, .. } => parts.day = file,
+        Asked::Merging { files, .. } => {
+            merged = mergings::decisive(files);
+            parts.day = &merged;
+        }
         Asked::Judge { rule, word, .. } => (parts.rule, parts.word) = (rule, word),
         Asked::Job { job, .. } => return shown_by_job(job, number, place),
         Asked::RuleFile { file, .. } => return shown_by_file(file, b"", number, place),

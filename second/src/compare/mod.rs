@@ -10,6 +10,8 @@ pub mod hours;
 pub mod job_edges;
 pub mod lent;
 pub mod letters;
+pub mod merges;
+pub mod mergings;
 pub mod names;
 pub mod program;
 pub mod progress;

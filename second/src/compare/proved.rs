@@ -74,6 +74,18 @@ extern "C" {
         answer: *mut u64,
         answer_len: usize,
     ) -> u64;
+    fn wuz_merge_days(
+        first: *const u8,
+        first_len: usize,
+        second: *const u8,
+        second_len: usize,
+        letters: *mut u8,
+        letters_len: usize,
+        seconds: *mut u32,
+        seconds_len: usize,
+        answer: *mut u64,
+        answer_len: usize,
+    ) -> u64;
 }
 
 /// Does a call on a small stack, in a thread with the case's name; gives what it returns.
@@ -127,6 +139,13 @@ fn run_here(call: Call<'_>) -> u64 {
             answer,
         } => judge_rule_file(file, word, limit, table, answer),
         Call::RewriteRule { text, out, answer } => rewrite_rule(text, out, answer),
+        Call::MergeDays {
+            first,
+            second,
+            letters,
+            seconds,
+            answer,
+        } => merge_days(first, second, letters, seconds, answer),
     }
 }
 
@@ -234,6 +253,29 @@ fn rewrite_rule(text: &[u8], out: &mut [u8], answer: &mut [u64]) -> u64 {
             text.len(),
             out.as_mut_ptr(),
             out.len(),
+            answer.as_mut_ptr(),
+            answer.len(),
+        )
+    }
+}
+
+fn merge_days(
+    first: &[u8],
+    second: &[u8],
+    letters: &mut [u8],
+    seconds: &mut [u32],
+    answer: &mut [u64],
+) -> u64 {
+    unsafe {
+        wuz_merge_days(
+            first.as_ptr(),
+            first.len(),
+            second.as_ptr(),
+            second.len(),
+            letters.as_mut_ptr(),
+            letters.len(),
+            seconds.as_mut_ptr(),
+            seconds.len(),
             answer.as_mut_ptr(),
             answer.len(),
         )

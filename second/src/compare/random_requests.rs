@@ -1,9 +1,10 @@
-//! Random requests to the library: all seven calls, and buffers of every length about the need.
+//! Random requests to the library: all eight calls, and buffers of every length about the need.
 
 use super::call::{FILE_LINES, FILE_NODES, NODES};
 use super::edge_requests::text_length;
 use super::job_edges;
 use super::lent::Dirt;
+use super::mergings::{line_count, lines};
 use super::random_jobs::{self, deeply_nested, LENGTHS};
 use super::random_rule_files;
 use super::request::{Asked, Request};
@@ -13,11 +14,12 @@ use crate::calls::Call;
 use crate::generate::{any_byte, change_byte};
 use crate::judge_edges::BAD_RULES;
 use crate::limits::{is_event, MAX_RULE_BYTES, MAX_SPECIAL, MAX_WORD};
+use crate::merge_edges::Pair;
 use crate::random::Random;
 use crate::random_stars::repeat_stars;
 use crate::stars::with_single;
 use crate::stream::Case;
-use crate::{day_edges, random_calls, random_days, random_rules};
+use crate::{day_edges, random_calls, random_days, random_merges, random_rules};
 use crate::{rule_edges, rule_file, rule_file_edges, table};
 
 /// The longest of the rule files on the edges that any draw starts from.
@@ -57,7 +59,7 @@ impl Draws {
 
     /// A random request.
     pub fn request(&self, random: &mut Random) -> Request {
-        let asked = match random.below(30) {
+        let asked = match random.below(34) {
             0..=4 => self.rule(random),
             5..=9 => self.day(random),
             10..=15 => judgement(random),
@@ -67,6 +69,7 @@ impl Draws {
                 with_word(random, file)
             }
             22..=25 => self.rewriting(random),
+            26..=29 => self.merging(random),
             _ => {
                 let job = self.job(random);
                 with_out(random, job)
@@ -124,6 +127,20 @@ impl Draws {
         let (letters, seconds) = (length(), length());
         Asked::Day {
             file,
+            letters,
+            seconds,
+        }
+    }
+
+    /// Two days to merge, one of them an edge or near to one now and then.
+    fn merging(&self, random: &mut Random) -> Asked {
+        let mut files = random_merges::pair(random);
+        if random.one_in(8) {
+            files[random.below(2)] = near_edge(random, &self.days);
+        }
+        let (letters, seconds) = merged_lengths(random, &files);
+        Asked::Merging {
+            files,
             letters,
             seconds,
         }
@@ -271,6 +288,16 @@ fn out_length(random: &mut Random, length: usize) -> usize {
         2..=4 => length,
         _ => length + 5,
     }
+}
+
+/// Lengths of both buffers for two merged days: mostly enough, else often enough for one file.
+fn merged_lengths(random: &mut Random, files: &Pair) -> (usize, usize) {
+    let need = lines(files);
+    let [first, second] = files.each_ref().map(|file| line_count(file));
+    let enough = [need, need, need + 1, need + 4];
+    let any = [need, need + 1, need.saturating_sub(1), first, second, 0];
+    let lengths = if random.one_in(3) { &any[..] } else { &enough };
+    (random.pick(lengths), random.pick(lengths))
 }
 
 /// Lends the call an answer, seldom too short a one, and dirt in everything.

@@ -5,7 +5,7 @@
 use super::call::{Call, Callee, FILE_LINES, FILE_NODES, NODES, UNANSWERED};
 use crate::refusal::{Reason, Refusal};
 use crate::rule::{Kind, Node, Rule};
-use crate::{day, job, judge, rewrite, rule, rule_file};
+use crate::{day, job, judge, merge, rewrite, rule, rule_file};
 
 /// Does a call.
 pub fn run(call: Call<'_>) -> Option<u32> {
@@ -43,6 +43,13 @@ pub fn run(call: Call<'_>) -> Option<u32> {
             answer,
         } => write_judgement(judge::judge_file, [file, word], limit, table, answer),
         Call::RewriteRule { text, out, answer } => rewrite_rule(text, out, answer),
+        Call::MergeDays {
+            first,
+            second,
+            letters,
+            seconds,
+            answer,
+        } => merge_days([first, second], letters, seconds, answer),
     }
 }
 
@@ -132,6 +139,17 @@ fn read_day(
 fn rewrite_rule(text: &[u8], out: &mut [u8], answer: &mut [u64]) -> Option<u32> {
     let answer = answer.get_mut(..Callee::RewriteRule.answer_length())?;
     Some(answer_length(answer, rewrite::rewrite(text, out)))
+}
+
+/// Merges two day files into the two buffers.
+fn merge_days(
+    files: [&[u8]; 2],
+    letters: &mut [u8],
+    seconds: &mut [u32],
+    answer: &mut [u64],
+) -> Option<u32> {
+    let answer = answer.get_mut(..Callee::MergeDays.answer_length())?;
+    Some(answer_length(answer, merge::merge(files, letters, seconds)))
 }
 
 /// Answers with the length of what was written, or with the refusal; gives the number.

@@ -4,6 +4,7 @@ use std::fmt;
 
 use super::call::Callee;
 use super::lent::Dirt;
+use crate::merge_edges::Pair;
 use crate::stream::Case;
 
 /// A call with the lengths of the buffers it is lent.
@@ -52,6 +53,11 @@ pub enum Asked {
         text: Vec<u8>,
         out: usize,
     },
+    Merging {
+        files: Pair,
+        letters: usize,
+        seconds: usize,
+    },
 }
 
 impl Asked {
@@ -95,6 +101,7 @@ impl Asked {
             Asked::RuleFile { .. } => Callee::ReadRuleFile,
             Asked::JudgeFile { .. } => Callee::JudgeRuleFile,
             Asked::Rewriting { .. } => Callee::RewriteRule,
+            Asked::Merging { .. } => Callee::MergeDays,
         }
     }
 }
@@ -150,6 +157,15 @@ impl fmt::Display for Asked {
             }
             Asked::Rewriting { text, out } => {
                 write!(formatter, "text {}, out of {out}", shown_bytes(text))
+            }
+            Asked::Merging {
+                files,
+                letters,
+                seconds,
+            } => {
+                let [first, second] = files.each_ref().map(|file| shown_bytes(file));
+                write!(formatter, "first {first}, second {second}, ")?;
+                write!(formatter, "letters of {letters}, seconds of {seconds}")
             }
         }
     }

@@ -24,7 +24,7 @@ impl Sets {
     /// What the cases of a callee have to show.
     pub fn of(callee: Callee) -> &'static [Sets] {
         match callee {
-            Callee::ReadDay | Callee::Troubled => &[],
+            Callee::ReadDay | Callee::MergeDays | Callee::Troubled => &[],
             _ => &[Sets::Brackets, Sets::Dot, Sets::BrokenBrackets],
         }
     }
@@ -49,7 +49,7 @@ pub fn shown(asked: &Asked, number: u32, place: usize) -> Vec<Sets> {
         Asked::RuleFile { file, .. } | Asked::JudgeFile { file, .. } => {
             shown_by_file(file, number, place)
         }
-        Asked::Day { .. } => Vec::new(),
+        Asked::Day { .. } | Asked::Merging { .. } => Vec::new(),
     }
 }
 

@@ -104,6 +104,19 @@ pub fn borrowed<'a>(call: &'a mut Call<'_>) -> Call<'a> {
             answer,
         },
         Call::RewriteRule { text, out, answer } => Call::RewriteRule { text, out, answer },
+        Call::MergeDays {
+            first,
+            second,
+            letters,
+            seconds,
+            answer,
+        } => Call::MergeDays {
+            first,
+            second,
+            letters,
+            seconds,
+            answer,
+        },
     }
 }
 
@@ -116,7 +129,8 @@ pub fn answer<'a>(call: &'a mut Call<'_>) -> &'a mut [u64] {
         | Call::RunJob { answer, .. }
         | Call::ReadRuleFile { answer, .. }
         | Call::JudgeRuleFile { answer, .. }
-        | Call::RewriteRule { answer, .. } => answer,
+        | Call::RewriteRule { answer, .. }
+        | Call::MergeDays { answer, .. } => answer,
     }
 }
 
@@ -182,8 +196,17 @@ fn rewriting(out: usize) -> Asked {
     }
 }
 
+/// Merges two days of two events and of one.
+fn merging(letters: usize, seconds: usize) -> Asked {
+    Asked::Merging {
+        files: [&b"E\t5\ta\nE\t7\tc\n"[..], b"E\t5\tb\n"].map(<[u8]>::to_vec),
+        letters,
+        seconds,
+    }
+}
+
 /// One of each call, accepted.
-fn all() -> [Asked; 7] {
+fn all() -> [Asked; 8] {
     [
         rule(),
         day(3, 4),
@@ -192,6 +215,7 @@ fn all() -> [Asked; 7] {
         rule_file(FILE_LINES + 2),
         file_judgement(7),
         rewriting(9),
+        merging(4, 6),
     ]
 }
 
@@ -224,6 +248,9 @@ fn the_number_that_should_come_is_told() {
     assert_eq!(kind(rewriting(7), 5), Kind::Number(0));
     assert_eq!(kind(rewriting(6), 5), Kind::Number(15));
     assert_eq!(kind(rewriting(7), 4), Kind::Unanswered);
+    assert_eq!(kind(merging(3, 3), 5), Kind::Number(0));
+    assert_eq!(kind(merging(3, 2), 5), Kind::Number(15));
+    assert_eq!(kind(merging(3, 3), 4), Kind::Unanswered);
 }
 
 #[test]
@@ -249,6 +276,7 @@ fn the_returned_number_is_compared() {
     calls.extend([job(40), job(0), rule_file(FILE_LINES)]);
     calls.extend([file_judgement(7), file_judgement(6)]);
     calls.extend([rewriting(9), rewriting(7), rewriting(6)]);
+    calls.extend([merging(4, 6), merging(2, 6)]);
     let place = |asked: &Asked, answer, changed| place_of(asked.clone(), answer, |_| (), changed);
     let found = Some("the number returned".to_string());
     for asked in &calls {
@@ -306,6 +334,7 @@ fn every_buffer_is_compared_to_its_last_element() {
         Call::ReadRuleFile { nodes, .. } => *nodes.last_mut().unwrap() ^= 1,
         Call::JudgeRuleFile { table, .. } => *table.last_mut().unwrap() ^= 1,
         Call::RewriteRule { out, .. } => *out.last_mut().unwrap() ^= 1,
+        Call::MergeDays { letters, .. } => *letters.last_mut().unwrap() ^= 1,
     };
     let places = [
         "nodes[129]",
@@ -315,6 +344,7 @@ fn every_buffer_is_compared_to_its_last_element() {
         "nodes[2050]",
         "table[20]",
         "out[8]",
+        "letters[3]",
     ];
     for (asked, expected) in all().into_iter().zip(places) {
         // With an answer that is long enough and with one that is not.
@@ -333,6 +363,11 @@ fn every_buffer_is_compared_to_its_last_element() {
         _ => unreachable!("a rule file is read"),
     });
     assert!(found.unwrap().starts_with("lines[33]"));
+    let found = place(merging(4, 6), 5, |call| match call {
+        Call::MergeDays { seconds, .. } => seconds[5] = 0,
+        _ => unreachable!("days are merged"),
+    });
+    assert!(found.unwrap().starts_with("seconds[5]"));
 }
 
 #[test]
@@ -352,6 +387,11 @@ fn a_buffer_touched_on_a_refusal_is_found() {
         _ => unreachable!("a rule is rewritten"),
     });
     assert!(found.unwrap().starts_with("out[5]"));
+    let found = place(merging(2, 3), 5, |call| match call {
+        Call::MergeDays { seconds, .. } => seconds[2] = 7,
+        _ => unreachable!("days are merged"),
+    });
+    assert!(found.unwrap().starts_with("seconds[2]"));
     // On 10 all of the needed numbers are 0, and no other changes.
     let mistakes: [(&str, Mistake); 3] = [
         ("table[0]", |call| change_table(call, 0)),

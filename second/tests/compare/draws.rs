@@ -9,7 +9,7 @@ use second::compare::random_requests::{source, Draws};
 use second::compare::request::{Asked, Request};
 use second::job;
 use second::judge::{judge, judge_file};
-use second::{rewrite, rule, rule_file};
+use second::{day, rewrite, rule, rule_file};
 
 /// Draws the first requests of a seed.
 fn requests(seed: u64, count: usize) -> Vec<Request> {
@@ -174,6 +174,39 @@ fn note_rewriting(bounds: &mut BTreeSet<String>, text: &[u8], out: usize) {
     note(bounds, text.starts_with(b"!"), "rewritten complement");
 }
 
+/// Notes the bounds of two days that are merged.
+fn note_merging(bounds: &mut BTreeSet<String>, files: [&[u8]; 2], letters: usize, seconds: usize) {
+    let read = files.map(day::records);
+    for (name, day) in ["first", "second"].iter().zip(&read) {
+        match day {
+            Ok(records) => note(bounds, records.is_empty(), format!("{name} empty")),
+            Err(refusal) => note(bounds, true, format!("{name} {}", refusal.number())),
+        }
+    }
+    let [Ok(first), Ok(second)] = read else {
+        return note(bounds, read.iter().all(Result::is_err), "both bad");
+    };
+    let n = first.len() + second.len();
+    note(bounds, (254..=257).contains(&n), format!("{n} together"));
+    for (name, buffer) in [("letters", letters), ("seconds", seconds)] {
+        note(bounds, buffer + 1 == n, format!("merged {name} short"));
+        note(bounds, buffer == n, format!("merged {name} exact"));
+        note(bounds, buffer > n, format!("merged {name} long"));
+        let of_one = [first.len(), second.len()].contains(&buffer) && buffer < n;
+        note(bounds, of_one, format!("merged {name} for one"));
+    }
+    let at = |second: u32| second == 0 || second == 86_399 || second == 86_400 || second == 89_999;
+    for record in first
+        .iter()
+        .chain(&second)
+        .filter(|record| at(record.second))
+    {
+        note(bounds, true, format!("merged at {}", record.second));
+    }
+    let second_has = |record: &day::Record| second.iter().any(|other| other == record);
+    note(bounds, first.iter().any(second_has), "event in both");
+}
+
 /// Notes the bounds of a rule file.
 fn note_file(bounds: &mut BTreeSet<String>, file: &[u8]) {
     let lines = match rule_file::read(file) {
@@ -253,6 +286,14 @@ fn every_bound_is_drawn() {
                 table,
             } => note_file_judge(&mut bounds, file, word, *limit, *table),
             Asked::Rewriting { text, out } => note_rewriting(&mut bounds, text, *out),
+            Asked::Merging {
+                files,
+                letters,
+                seconds,
+            } => {
+                let files = files.each_ref().map(Vec::as_slice);
+                note_merging(&mut bounds, files, *letters, *seconds);
+            }
         }
     }
     let expected =
@@ -275,7 +316,12 @@ fn every_bound_is_drawn() {
         file with dot;rule 21;judge 21;job 21;file 21;rewriter 1;rewriter 2;rewriter 3;rewriter 4;\
         rewriter 5;rewriter 6;rewriter 20;rewriting none;rewriting short;rewriting exact;\
         rewriting long;rewritten to itself;one star lost;many stars lost;rewritten from 255;\
-        rewritten brackets;rewritten complement";
+        rewritten brackets;rewritten complement;first empty;first 11;first 12;first 13;first 14;\
+        second empty;second 11;second 12;second 13;second 14;both bad;254 together;255 together;\
+        256 together;257 together;merged letters short;merged letters exact;merged letters long;\
+        merged letters for one;merged seconds short;merged seconds exact;merged seconds long;\
+        merged seconds for one;merged at 0;merged at 86399;merged at 86400;merged at 89999;\
+        event in both";
     for bound in expected.split(';') {
         assert!(bounds.contains(bound), "{bound} was not drawn");
     }

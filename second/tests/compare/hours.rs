@@ -28,10 +28,22 @@ fn job(day: &[u8]) -> Asked {
     }
 }
 
-/// What a day shows, alone and in a job.
+/// That day merged with another, as the first file and as the second.
+fn mergings(day: &[u8]) -> [Asked; 2] {
+    let other = b"E\t86399\ta\n";
+    [[day, other], [other, day]].map(|files| Asked::Merging {
+        files: files.map(<[u8]>::to_vec),
+        letters: 9,
+        seconds: 9,
+    })
+}
+
+/// What a day shows, alone, in a job and merged.
 fn of_day(file: &[u8], number: u32, place: usize) -> Option<Hours> {
-    let [alone, in_job] = [day(file), job(file)].map(|asked| shown(&asked, number, place));
-    assert_eq!(alone, in_job);
+    let [first, second] = mergings(file);
+    let all = [day(file), job(file), first, second];
+    let [alone, others @ ..] = all.map(|asked| shown(&asked, number, place));
+    assert_eq!(others, [alone; 3]);
     alone
 }
 
@@ -111,12 +123,17 @@ fn what_is_shown_is_counted() {
 
 #[test]
 fn what_is_never_shown_is_a_failure() {
-    let with_days = [Callee::ReadDay, Callee::RunJob, Callee::Program];
+    let with_days = [
+        Callee::ReadDay,
+        Callee::RunJob,
+        Callee::MergeDays,
+        Callee::Program,
+    ];
     let mut output = Vec::new();
     let run = Run::new(&mut output);
     assert!(!run.finish(&with_days.map(Callee::required)).unwrap());
     let text = String::from_utf8(output).unwrap();
-    for callee in ["wuz_read_day", "wuz_run_job", "the program"] {
+    for callee in with_days {
         for missing in [
             "accepted, day with 25th hour",
             "refusal 13 for 90000 or more",
@@ -127,5 +144,5 @@ fn what_is_never_shown_is_a_failure() {
     }
     let shown = |kind: &Kind| matches!(kind, Kind::ShownHours(_));
     let count = |callee: Callee| callee.kinds().iter().filter(|kind| shown(kind)).count();
-    assert_eq!(Callee::LIBRARY.map(count), [0, 2, 0, 2, 0, 0, 0]);
+    assert_eq!(Callee::LIBRARY.map(count), [0, 2, 0, 2, 0, 0, 0, 2]);
 }

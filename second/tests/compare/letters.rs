@@ -15,14 +15,25 @@ fn of_rule(text: &[u8], number: u32, place: usize) -> Vec<Letters> {
     shown(&Asked::Rule { text, nodes }, number, place)
 }
 
-/// What a day shows.
+/// What a day shows, alone and merged with another as either file.
 fn of_day(file: &[u8], number: u32, place: usize) -> Vec<Letters> {
+    let (letters, seconds) = (9, 9);
     let day = Asked::Day {
         file: file.to_vec(),
-        letters: 9,
-        seconds: 9,
+        letters,
+        seconds,
     };
-    shown(&day, number, place)
+    let day = shown(&day, number, place);
+    let other = b"E\t0\ta\n";
+    for files in [[file, other], [other, file]] {
+        let merging = Asked::Merging {
+            files: files.map(<[u8]>::to_vec),
+            letters,
+            seconds,
+        };
+        assert_eq!(shown(&merging, number, place), day);
+    }
+    day
 }
 
 /// What a judge call shows.
@@ -146,7 +157,7 @@ fn what_is_never_shown_is_a_failure() {
     }
     let shown = |kind: &Kind| matches!(kind, Kind::Shown(_));
     let count = |callee: Callee| callee.kinds().iter().filter(|kind| shown(kind)).count();
-    assert_eq!(Callee::LIBRARY.map(count), [2, 2, 4, 4, 2, 4, 2]);
+    assert_eq!(Callee::LIBRARY.map(count), [2, 2, 4, 4, 2, 4, 2, 2]);
 }
 
 /// Places in a rule, in a word and in a day; the question mark stands for the byte.
@@ -196,6 +207,7 @@ struct AllAsked {
     rule_files: HashSet<Vec<u8>>,
     judged_files: HashSet<Vec<u8>>,
     rewritten_rules: HashSet<Vec<u8>>,
+    merged_days: [HashSet<Vec<u8>>; 2],
 }
 
 impl AllAsked {
@@ -219,6 +231,11 @@ impl AllAsked {
             Asked::RuleFile { file, .. } => drop(self.rule_files.insert(file)),
             Asked::JudgeFile { file, .. } => drop(self.judged_files.insert(file)),
             Asked::Rewriting { text, .. } => drop(self.rewritten_rules.insert(text)),
+            Asked::Merging { files, .. } => {
+                for (asked, file) in self.merged_days.iter_mut().zip(files) {
+                    asked.insert(file);
+                }
+            }
         }
     }
 }
@@ -252,6 +269,9 @@ fn every_byte_is_asked_at_every_place() {
         for place in DAY_PLACES {
             check_asked(&asked.days, place, byte);
             check_asked(&asked.job_days, place, byte);
+            for days in &asked.merged_days {
+                check_asked(days, place, byte);
+            }
         }
         for place in FILE_PLACES {
             check_asked(&asked.rule_files, place, byte);

@@ -373,3 +373,71 @@ fn a_star_after_a_star_is_21_in_every_call_that_refuses_it() {
     assert_eq!((number, answer), (Some(21), vec![21, 2, 0, 0]));
     assert_eq!(table, [KEPT]);
 }
+
+/// Merges two days; gives the number, the answer, the letters and the seconds.
+fn merge_days(
+    [first, second]: [&[u8]; 2],
+    [letters, seconds, answer]: [usize; 3],
+) -> (Option<u32>, Vec<u64>, Vec<u8>, Vec<u32>) {
+    let (mut letters, mut seconds) = (vec![b'?'; letters], vec![7; seconds]);
+    let mut answer = vec![KEPT; answer];
+    let number = run(Call::MergeDays {
+        first,
+        second,
+        letters: &mut letters,
+        seconds: &mut seconds,
+        answer: &mut answer,
+    });
+    (number, answer, letters, seconds)
+}
+
+#[test]
+fn merged_days_fill_both_buffers_up_to_their_end() {
+    let files: [&[u8]; 2] = [b"E\t5\tx\nE\t86400\ty\n", b"E\t5\tA\nE\t89999\tB\n"];
+    let (number, answer, letters, seconds) = merge_days(files, [5, 6, 7]);
+    assert_eq!(number, Some(0));
+    assert_eq!(answer, [0, 0, 0, 0, 4, KEPT, KEPT]);
+    assert_eq!(letters, b"xAyB?");
+    assert_eq!(seconds, [5, 5, 86_400, 89_999, 7, 7]);
+    let exact = merge_days(files, [4, 4, 5]);
+    let answer = vec![0, 0, 0, 0, 4];
+    let seconds = vec![5, 5, 86_400, 89_999];
+    assert_eq!(exact, (Some(0), answer, b"xAyB".to_vec(), seconds));
+    let empty = merge_days([b"", b""], [0, 0, 5]);
+    assert_eq!(empty, (Some(0), vec![0; 5], vec![], vec![]));
+}
+
+#[test]
+fn refused_days_leave_both_buffers() {
+    let (good, full) = (&b"E\t5\ta\n"[..], b"E\t5\ta\n".repeat(255));
+    let long = [b'x'; 2_551];
+    type Refused<'a> = ([&'a [u8]; 2], [usize; 2], [u64; 2]);
+    let refused: [Refused; 10] = [
+        ([&long, b"x"], [3, 3], [11, 0]),
+        ([good, &long], [3, 3], [11, 0]),
+        ([b"x", &long], [3, 3], [12, 1]),
+        ([good, b"E\t5\ta\nE\t6\tb\nx"], [3, 3], [12, 3]),
+        ([b"E\t5\ta\nE\t4\ta\n", b"x"], [3, 3], [13, 2]),
+        ([&full, &[&full[..], b"E"].concat()], [0, 0], [14, 256]),
+        ([&full, good], [0, 300], [22, 0]),
+        ([good, &full], [256, 256], [22, 0]),
+        ([good, good], [1, 2], [15, 0]),
+        ([good, good], [2, 1], [15, 0]),
+    ];
+    for (files, [letters, seconds], [number, place]) in refused {
+        let answer = vec![number, place, 0, 0, 0, KEPT];
+        let (kept_letters, kept_seconds) = (vec![b'?'; letters], vec![7; seconds]);
+        let expected = (Some(number as u32), answer, kept_letters, kept_seconds);
+        assert_eq!(merge_days(files, [letters, seconds, 6]), expected);
+    }
+}
+
+#[test]
+fn merged_days_without_room_for_their_answer_are_left() {
+    for answer in 0..5 {
+        for files in [[&b"E\t5\ta\n"[..], b""], [b"x", b""], [b"", b""]] {
+            let left = (None, vec![KEPT; answer], vec![b'?'; 3], vec![7; 3]);
+            assert_eq!(merge_days(files, [3, 3, answer]), left);
+        }
+    }
+}

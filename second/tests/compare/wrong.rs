@@ -45,14 +45,16 @@ pub fn taken_job(job: &[u8], mistake: Mistake) -> Vec<u8> {
 fn done_wrong(call: Call, mistake: Mistake) -> u64 {
     let text = |text: &[u8]| mistake(Part::RuleOrWord, text);
     let rules = |file: &[u8]| mistake(Part::RuleFile, file);
+    let days = |file: &[u8]| mistake(Part::Day, file);
     let (first, second) = match &call {
         Call::ReadRule { text: rule, .. } => (text(rule), Vec::new()),
-        Call::ReadDay { file, .. } => (mistake(Part::Day, file), Vec::new()),
+        Call::ReadDay { file, .. } => (days(file), Vec::new()),
         Call::Judge { rule, word, .. } => (text(rule), text(word)),
         Call::RunJob { job, .. } => (taken_job(job, mistake), Vec::new()),
         Call::ReadRuleFile { file, .. } => (rules(file), Vec::new()),
         Call::JudgeRuleFile { file, word, .. } => (rules(file), text(word)),
         Call::RewriteRule { text: rule, .. } => (text(rule), Vec::new()),
+        Call::MergeDays { first, second, .. } => (days(first), days(second)),
     };
     let mut call = call;
     match &mut call {
@@ -63,6 +65,11 @@ fn done_wrong(call: Call, mistake: Mistake) -> u64 {
         Call::ReadRuleFile { file, .. } => *file = &first,
         Call::JudgeRuleFile { file, word, .. } => (*file, *word) = (&first, &second),
         Call::RewriteRule { text, .. } => *text = &first,
+        Call::MergeDays {
+            first: one,
+            second: other,
+            ..
+        } => (*one, *other) = (&first, &second),
     }
     reference::returned(reference::run(call))
 }
@@ -80,6 +87,7 @@ pub fn length(request: &Request) -> usize {
             rules_of(request).len() + word.len()
         }
         Asked::Day { file, .. } => file.len(),
+        Asked::Merging { files, .. } => files.concat().len(),
         _ => rules_of(request).len(),
     }
 }
@@ -108,7 +116,7 @@ pub fn rules_of(request: &Request) -> &[u8] {
         | Asked::RuleFile { file: bytes, .. }
         | Asked::JudgeFile { file: bytes, .. }
         | Asked::Rewriting { text: bytes, .. } => bytes,
-        Asked::Day { .. } => b"",
+        Asked::Day { .. } | Asked::Merging { .. } => b"",
     }
 }
 

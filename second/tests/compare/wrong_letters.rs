@@ -80,7 +80,8 @@ fn lost_by(call: &Call) -> u64 {
         Call::ReadRule { .. }
         | Call::ReadDay { .. }
         | Call::ReadRuleFile { .. }
-        | Call::RewriteRule { .. } => 0,
+        | Call::RewriteRule { .. }
+        | Call::MergeDays { .. } => 0,
         Call::Judge { rule, word, .. } => lost(read(rule).unwrap(), word),
         Call::JudgeRuleFile { file, word, .. } => lost(read_last(file).unwrap(), word),
         Call::RunJob { job, .. } => {

@@ -1,4 +1,4 @@
-//! Libraries with wrong seconds: the edges find each in both calls that read a day, and those of
+//! Libraries with wrong seconds: the edges find each in all calls that read a day, and those of
 //! jobs would find the same mistakes in a program.
 
 use std::ops::RangeInclusive;
@@ -13,7 +13,7 @@ use crate::check::borrowed;
 use crate::wrong::{found, found_with, short_edges, taken_job, Part};
 
 /// The calls that read a day.
-const BOTH: [Callee; 2] = [Callee::ReadDay, Callee::RunJob];
+const ALL: [Callee; 3] = [Callee::ReadDay, Callee::RunJob, Callee::MergeDays];
 
 /// What a library does wrongly.
 #[derive(Debug)]
@@ -85,10 +85,10 @@ fn second_of(field: &[u8]) -> Option<u32> {
     (second <= 99_999 && second.to_string() == text).then_some(second)
 }
 
-/// The short edges of both calls.
+/// The short edges of these calls.
 fn edges() -> Vec<Request> {
     let mut edges = short_edges();
-    edges.retain(|edge| BOTH.contains(&edge.asked.callee()));
+    edges.retain(|edge| ALL.contains(&edge.asked.callee()));
     edges
 }
 
@@ -97,7 +97,7 @@ fn the_edges_find_a_library_with_wrong_seconds() {
     let edges = edges();
     let found = |wrong: &Wrong| found_with(&edges, &|part, bytes| wrong.taken_part(part, bytes));
     for wrong in WRONGS {
-        assert_eq!(found(&wrong), BOTH, "{wrong:?}");
+        assert_eq!(found(&wrong), ALL, "{wrong:?}");
     }
     assert_eq!(found(&Wrong::Last(89_999)), []);
 }
@@ -125,6 +125,9 @@ fn the_edges_find_a_reader_that_counts_anew_after_24_hours() {
             Some(0),
             Call::ReadDay {
                 seconds, answer, ..
+            }
+            | Call::MergeDays {
+                seconds, answer, ..
             },
         ) = (number, &mut call)
         {
@@ -133,5 +136,6 @@ fn the_edges_find_a_reader_that_counts_anew_after_24_hours() {
         }
         reference::returned(number)
     };
-    assert_eq!(found(&edges(), &library), [Callee::ReadDay]);
+    let both = [Callee::ReadDay, Callee::MergeDays];
+    assert_eq!(found(&edges(), &library), both);
 }
