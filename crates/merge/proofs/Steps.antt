@@ -65,16 +65,26 @@ module _ {cs xs ds ys : List ℕ} (fits1 : Fits cs xs) (fits2 : Fits ds ys) wher
     answers-events ls ss ls′ ss′ h g p q =
         accepts (joined a b) (length cs + length ds) ls ss ls′ ss′ as-many h g p q ∙ few-enough a b ls ss (omega (arith, together))
 
--- buffers of 255 zeros have room for every day
-pub zeros-long : 255 ≤ length {A = ℕ} (replicate 255 0)
-zeros-long = omega (arith, length-replicate {A = ℕ} 255 0)
+-- ---- a file that was read into buffers of 255 zeros, which have room for every day
+abbrev zeros : List ℕ
+zeros = replicate 255 0
 
--- ---- a file that was read into the buffers us and vs, which have room for every day, and left ls and ss there
-module _ (s us vs ls ss : List ℕ) (o : day.Outcome) (e : dayValues o ls ss ≡ dayAnswer s us vs) where
+-- what the day reader answered, and left there
+pub record FileRead (s ls ss : List ℕ) (o : day.Outcome) : Type 0 where
+  value : dayValues o ls ss ≡ dayAnswer s zeros zeros
+  as-long : (length ls ≡ 255) × (length ss ≡ 255)
+
+pub file-read : (s : List ℕ) {ls ss : List ℕ} (o : day.Outcome) → dayValues o ls ss ≡ dayAnswer s (replicate 255 0) (replicate 255 0)
+    → length ls ≡ 255 → length ss ≡ 255 → FileRead s ls ss o
+file-read s o e h g = record { value = e; as-long = (h, g) }
+
+module _ {s ls ss : List ℕ} {o : day.Outcome} (f : FileRead s ls ss o) where
   -- it is refused: so is the merging
-  module _ (room : (255 ≤ length us) × (255 ≤ length vs)) (r : Refusal) (q : o ≡ day-outcome.Refused r) where
+  module _ (r : Refusal) (q : o ≡ day-outcome.Refused r) where
     stops : Refuses s r
-    stops = refuses s us vs ls ss room (ap (λ (x : day.Outcome). dayValues x ls ss) (sym q) ∙ e)
+    stops =
+        let n = length-replicate {A = ℕ} 255 0 in
+        refuses s zeros zeros ls ss (omega arith, omega arith) (ap (λ (x : day.Outcome). dayValues x ls ss) (sym q) ∙ f .value)
 
     refused : (old-ls old-ss : List ℕ) → mergeValues (DayRefused r) old-ls old-ss ≡ told (refusalVerdict (stops .why)) 0 old-ls old-ss
     refused old-ls old-ss = ap (λ (v : Verdict). told v 0 old-ls old-ss) (sym (stops .says))
@@ -87,21 +97,19 @@ module _ (s us vs ls ss : List ℕ) (o : day.Outcome) (e : dayValues o ls ss ≡
         → mergeValues (DayRefused r) old-ls old-ss ≡ afterFirst a (dayEvents s) old-ls old-ss
     second-stops a old-ls old-ss = refused old-ls old-ss ∙ ap (λ (x : LinesResult). afterFirst a x old-ls old-ss) (sym (stops .comes))
 
-  -- it is accepted: its events go on
+  -- it is accepted: its events, the first n of each buffer, go on
   module _ (n : ℕ) (q : o ≡ day-outcome.Accepted n) where
     goes : Holds s n ls ss
-    goes = holds s us vs ls ss (ap (λ (x : day.Outcome). dayValues x ls ss) (sym q) ∙ e)
+    goes = holds s zeros zeros ls ss (ap (λ (x : day.Outcome). dayValues x ls ss) (sym q) ∙ f .value)
 
-    pub front-within : 255 ≤ length ls → 255 ≤ length ss → (n ≤ length ls) × (n ≤ length ss)
-    front-within h g = (omega (arith, goes .few), omega (arith, goes .few))
+    pub within : (n ≤ length ls) × (n ≤ length ss)
+    within = (omega (arith, goes .few, f .as-long), omega (arith, goes .few, f .as-long))
 
-    pub front-fits : 255 ≤ length ls → Fits (take n ls) (take n ss)
-    front-fits h =
-        let k = length-take-le n ls (omega (arith, goes .few)) in
-        record {
-          few = omega (arith, goes .few);
-          as-many = ap length (goes .letters) ∙ length-map (goes .l) letterOf ∙ sym (ap length (goes .seconds) ∙ length-map (goes .l) secondOf);
-        }
+    pub front-long : (n ≡ length (take n ls)) × (n ≡ length (take n ss))
+    front-long = (sym (length-take-le n ls (within .0)), sym (length-take-le n ss (within .1)))
+
+    pub front-fits : Fits (take n ls) (take n ss)
+    front-fits = let k = front-long in record { few = omega (arith, goes .few); as-many = omega arith }
 
     events-are : paired (take n ls) (take n ss) ≡ goes .l
     events-are = ap₂ paired (goes .letters) (goes .seconds) ∙ paired-events (goes .l)

@@ -1,5 +1,5 @@
 // Merging: the day files of a door's two readers become one day, in two lent buffers, letters and seconds.
-// The letters and seconds of the first file's events are called letters1 and seconds1, those of the second file's letters2 and seconds2.
+// What is the first file's has a 1 behind its name (letters1, seconds1), what is the second file's a 2.
 mod events;
 
 use day::Outcome as DayOutcome;
@@ -35,10 +35,10 @@ pub fn merge(first: &[u8], second: &[u8], letters: &mut [u8], seconds: &mut [u32
     let mut letters1 = [0u8; MOST_EVENTS];
     let mut seconds1 = [0u32; MOST_EVENTS];
     match day::read(first, &mut letters1, &mut seconds1) {
-        DayOutcome::Refused(refusal) => Outcome::DayRefused(refusal),
-        DayOutcome::Accepted(n) => merge_second(
-            &letters1[..n],
-            &seconds1[..n],
+        DayOutcome::Refused(refusal1) => Outcome::DayRefused(refusal1),
+        DayOutcome::Accepted(n1) => merge_second(
+            &letters1[..n1],
+            &seconds1[..n1],
             second,
             letters,
             seconds,
@@ -63,12 +63,12 @@ fn merge_second(
     let mut letters2 = [0u8; MOST_EVENTS];
     let mut seconds2 = [0u32; MOST_EVENTS];
     match day::read(second, &mut letters2, &mut seconds2) {
-        DayOutcome::Refused(refusal) => Outcome::DayRefused(refusal),
-        DayOutcome::Accepted(n) => merge_events(
+        DayOutcome::Refused(refusal2) => Outcome::DayRefused(refusal2),
+        DayOutcome::Accepted(n2) => merge_events(
             letters1,
             seconds1,
-            &letters2[..n],
-            &seconds2[..n],
+            &letters2[..n2],
+            &seconds2[..n2],
             letters,
             seconds,
         ),

@@ -1,5 +1,6 @@
 -- `merge_events` answers as `afterBoth`. Assumes nothing.
 use borrow.Author.Needs.{needs}
+use native.Mathlib.Omega.{arith}
 use borrow.Author.Tests.{ltb-true, ltb-false}
 use mathlib.Core.Logic.{inl, inr, ⊎-elim}
 use Rattle.merge.proofs.Steps.{answers-many, answers-short, answers-events}
@@ -10,11 +11,11 @@ pub merge-events-spec : {M : Type 1} → statement M
 merge-events-spec =
     tie.close (tie.spec
     (λ c. search needs)
-    (λ c. let p = c .before .before .before .before .before .before .before .pre in answers-many (p .0) (p .1) _ _ (c .if1 .taken))
+    (λ c. let p = c .before .before .before .before .before .before .before .pre in answers-many (p .0) (p .1) _ _ (omega (arith, c .if1 .taken)))
     (λ c.
     let f = c .before in
     let p = f .before .before .before .before .before .before .before .pre in
-    answers-short (p .0) (p .1) (f .if1 .left) _ _ (⊎-elim (λ h. inl (h .taken)) (λ h. inr (ltb-true _ _ (h .1 .taken))) (c .if2 .came)))
+    answers-short (p .0) (p .1) (omega (arith, f .if1 .left)) _ _ (⊎-elim (λ h. inl (h .taken)) (λ h. inr (ltb-true _ _ (h .1 .taken))) (c .if2 .came)))
     (λ c κs.
     let r = c .before .before in
     let p = r .before .before .before .before .before .before .before .before .before .pre in
