@@ -46,9 +46,9 @@ merge-spec =
     let f = file-read (a .first .now) (r .read .result) (r .read .ensures .0) (r .read .kept .1 .0) (r .read .kept .1 .1 .0) in
     front-fits f (m .0 .0) (m .1))
     (λ c.
+    let m = c .before .refusal1 .given in
     let r = c .before .before .before .before .before in
     let a = r .before .before .before .before .before .before .before .args in
-    let m = c .before .refusal1 .given in
     let f = file-read (a .first .now) (r .read .result) (r .read .ensures .0) (r .read .kept .1 .0) (r .read .kept .1 .1 .0) in
     answers (a .first .now) (a .second .now) (a .letters .now) (a .seconds .now) _
     (first-stops f (m .0 .0) (m .1) (dayEvents (a .second .now)) (a .letters .now) (a .seconds .now)))

@@ -45,9 +45,9 @@ merge-second-spec =
     let f = file-read (a .second .now) (r .read .result) (r .read .ensures .0) (r .read .kept .1 .0) (r .read .kept .1 .1 .0) in
     (r .before .before .before .before .before .before .before .before .pre, front-fits f (m .0 .0) (m .1)))
     (λ c.
+    let m = c .before .refusal2 .given in
     let r = c .before .before .before .before .before in
     let a = r .before .before .before .before .before .before .before .before .args in
-    let m = c .before .refusal2 .given in
     let f = file-read (a .second .now) (r .read .result) (r .read .ensures .0) (r .read .kept .1 .0) (r .read .kept .1 .1 .0) in
     second-stops f (m .0 .0) (m .1) (paired (a .letters1 .now) (a .seconds1 .now)) (a .letters .now) (a .seconds .now))
     (λ c. c .before .before .before .before .merge-events .kept .1 .1 .1 .1 .0)
