@@ -18,7 +18,7 @@ static const uint8_t rule[] = "co";
 
 static uint64_t table[WUZ_MOST_TABLE];
 
-/* The bytes of a file, or -1 where it cannot be read. */
+/* Reads the bytes of a file, and tells how many, or -1 where it cannot be read. */
 static long read_file(const char *name, uint8_t *bytes) {
     FILE *file = fopen(name, "rb");
     if (file == NULL) return -1;
@@ -58,6 +58,7 @@ static int tell(const char *name, const struct day *day) {
 int main(int count, char **names) {
     static uint8_t inside[MOST_FILE], outside[MOST_FILE];
     static struct day alone, both;
+    uint64_t day_answer[WUZ_DAY_ANSWER] = {0};
     uint64_t answer[WUZ_MERGE_ANSWER] = {0};
     if (count != 3) {
         fprintf(stderr, "usage: %s INSIDE OUTSIDE\n", names[0]);
@@ -68,10 +69,11 @@ int main(int count, char **names) {
         fprintf(stderr, "%s: it cannot be read\n", names[in < 0 ? 1 : 2]);
         return 1;
     }
-    if (wuz_read_day(outside, (size_t)out, alone.letters, WUZ_MOST_EVENTS, alone.seconds, WUZ_MOST_EVENTS, answer, WUZ_DAY_ANSWER) != 0) {
-        return refused(names[2], answer);
+    if (wuz_read_day(outside, (size_t)out, alone.letters, WUZ_MOST_EVENTS, alone.seconds, WUZ_MOST_EVENTS, day_answer,
+                     WUZ_DAY_ANSWER) != 0) {
+        return refused(names[2], day_answer);
     }
-    alone.n = answer[4];
+    alone.n = day_answer[4];
     /* At equal seconds the first file's events come first: a badge inside before the opening that it is for. The second file has passed, so
      * 11 to 14 are the first one's. */
     if (wuz_merge_days(inside, (size_t)in, outside, (size_t)out, both.letters, WUZ_MOST_EVENTS, both.seconds, WUZ_MOST_EVENTS, answer,
@@ -79,5 +81,5 @@ int main(int count, char **names) {
         return refused(answer[0] == 22 ? "the two days" : names[1], answer);
     }
     both.n = answer[4];
-    return tell("outside reader alone", &alone) || tell("both readers", &both) || fflush(stdout) != 0;
+    return tell("outside reader alone", &alone) || tell("both readers", &both) || fflush(stdout) != 0 || ferror(stdout);
 }

@@ -52,8 +52,8 @@
  *   14  a 256th line has begun, whatever stands in it; place: 256
  *   15  `letters` or `seconds` is shorter than the day; of wuz_run_job and
  *       wuz_rewrite_rule, after all else: `out` is shorter than the text
- *   or two days, of wuz_merge_days: 11 to 14 of the first file, place: its line; then 11 to 14 of the second file, place: its line; then 22; 15
- *   last, where `letters` or `seconds` is shorter than both days together
+ *   or two days, of wuz_merge_days: 11 to 14 of the first file, and then of the second, each by its own lines; then 22; 15 last, where `letters`
+ *   or `seconds` is shorter than both days together
  *   22  the two files have over 255 events together
  *   or, for wuz_judge and wuz_judge_rule_file, after the rule or the file: the first of these that fits
  *    7  the word is over 255 events
@@ -152,7 +152,8 @@ uint64_t wuz_rewrite_rule(const uint8_t *text, size_t text_len, uint8_t *out, si
 /* Merges two day files, as of a door with a reader on each face, into one day: by rising second; at equal seconds the first file's events come
  * first, and each file's own order is kept. Nothing is lost and nothing is added. answer (5): number, place, 0, 0, n: the files have n events
  * together. letters, seconds: on acceptance the first n are written, as wuz_read_day writes those of one file that has all these lines in this
- * order; what follows is not touched. Where 11 to 14 is told, wuz_read_day of the first file tells whether it is that one or the second.
+ * order; what follows is not touched. Where 11 to 14 is told, it is of the first file if wuz_read_day tells 11 to 14 of that, and else of the
+ * second.
  * Numbers: 0, 11 to 15, 22. */
 uint64_t wuz_merge_days(const uint8_t *first, size_t first_len, const uint8_t *second, size_t second_len, uint8_t *letters, size_t letters_len,
                         uint32_t *seconds, size_t seconds_len, uint64_t *answer, size_t answer_len);

@@ -15,7 +15,7 @@ use Rattle.verdict.specs.declared.Verdict.{Verdict}
 use Rattle.day.specs.DayFile.{lastSecond, DayEvent, letterOf, secondOf, LineAt, Lines, done, more, secondAfter}
 use Rattle.day.specs.DayLines.{LinesResult, stopped, events, front, judged, lineOf, dayLines}
 use Rattle.day.specs.DayAnswer.{DayAnswer, values, refusal, acceptance, refusalVerdict, told}
-use Rattle.day.specs.DayComputed.{dayEvents, answered, dayAnswer}
+use Rattle.day.specs.DayComputed.{dayEvents, ComesTo, answered, dayAnswer}
 use Rattle.day.specs.DayMeaning.{Whole, DayRefused, long-file, many-lines, malformed-line, wrong-second}
 use Rattle.day.specs.DayMeaning.{DayMeaning, file-refused, short-buffer, accepted}
 use Rattle.day.specs.declared.Refusal.{Refusal}
@@ -117,12 +117,7 @@ says (suc left) y (b ∷ s) h = says-line left y (b ∷ s) (omega arith) (omega 
 pub good-lines : (s : List ℕ) (l : List DayEvent) → dayLines 255 0 s ≡ events l → Lines 0 s l []
 good-lines s l e = subst (Says 255 0 s) e (says 255 0 s (omega arith)) .0
 
--- a file is refused as it comes to, or is the lines of its events
-abbrev pub Reads : List ℕ → LinesResult → Type 0
-Reads s (stopped r) = DayRefused s (refusalVerdict r .number) (refusalVerdict r .place)
-Reads s (events l) = Whole s l
-
-lines-read : (s : List ℕ) → length s ≤ 2550 → (d : LinesResult) → Says 255 0 s d → Reads s d
+lines-read : (s : List ℕ) → length s ≤ 2550 → (d : LinesResult) → Says 255 0 s d → ComesTo s d
 lines-read s h (stopped (why.Malformed p)) b =
     let e : suc (length (b .l)) ≡ p = omega (arith, b .place) in
     subst (DayRefused s 12) e (malformed-line (record { fits = h; good = b .good; begun = b .begun }) (b .few) (b .why))
@@ -135,10 +130,10 @@ lines-read s h (stopped why.LongFile) b = absurd b
 lines-read s h (stopped why.ShortBuffer) b = absurd b
 lines-read s h (events l) b = record { fits = h; good = b .0; few = b .1 }
 
-pub events-read : (s : List ℕ) → Reads s (dayEvents s)
+pub events-read : (s : List ℕ) → ComesTo s (dayEvents s)
 unfolding dayEvents
 events-read s =
-    choose (Reads s) (ltb 2550 (length s)) (λ f. long-file (ltb-true 2550 (length s) f))
+    choose (ComesTo s) (ltb 2550 (length s)) (λ f. long-file (ltb-true 2550 (length s) f))
     (λ f. lines-read s (ltb-false 2550 (length s) f) (dayLines 255 0 s) (says 255 0 s (omega arith)))
 
 -- a refusal told is number and place, and all else 0
@@ -150,7 +145,7 @@ told-refusal (why.WrongSecond p) ls ss = refl
 told-refusal why.ManyLines ls ss = refl
 told-refusal why.ShortBuffer ls ss = refl
 
-means : (s ls ss : List ℕ) (d : LinesResult) → Reads s d → DayMeaning s ls ss (answered d ls ss)
+means : (s ls ss : List ℕ) (d : LinesResult) → ComesTo s d → DayMeaning s ls ss (answered d ls ss)
 means s ls ss (stopped r) m = subst (DayMeaning s ls ss) (sym (told-refusal r ls ss)) (file-refused m)
 means s ls ss (events l) w =
     choose (DayMeaning s ls ss) (ltb (length ls) (length l) || ltb (length ss) (length l))
@@ -219,45 +214,37 @@ by-lines s d h e = let f : dayEvents s ≡ dayLines 255 0 s = simp (le-ltb 2550 
 pub read-events : {s : List ℕ} {l : List DayEvent} → Whole s l → dayEvents s ≡ events l
 read-events {s} {l} w = by-lines s (events l) (w .fits) (whole-lines (w .good) (w .few))
 
--- a file that is refused with this number and place
-pub record Stopped (s : List ℕ) (number place : ℕ) : Type 0 where
-  pub why : Refusal
-  pub comes : dayEvents s ≡ stopped why
-  pub says : refusalVerdict why ≡ verdict.refused number place
-
-pub read-refused : {s : List ℕ} {number place : ℕ} → DayRefused s number place → Stopped s number place
+pub read-refused : {s : List ℕ} {number place : ℕ} → DayRefused s number place
+    → (r : Refusal) × (dayEvents s ≡ stopped r) × (refusalVerdict r ≡ verdict.refused number place)
 unfolding dayEvents
-read-refused {s} (long-file h) = record { why = why.LongFile; comes = simp (lt-ltb 2550 (length s) h); says = refl }
-read-refused {s} (many-lines {l = l} {rest = rest} u h) =
-    record {
-      why = why.ManyLines;
-      comes = by-lines s (stopped why.ManyLines) (u .fits) (run-all (u .good) (omega arith)
-          ∙ ap (prefixed l) (turn-many (length l) (secondAfter 0 l) rest h (u .begun)) ∙ prefixed-refusal (stopped why.ManyLines) (λ e. refl) l);
-      says = refl;
-    }
+read-refused {s} (long-file h) = (why.LongFile, simp (lt-ltb 2550 (length s) h), refl)
+read-refused {s} (many-lines {l = l} {rest = rest} u h) = (
+  why.ManyLines,
+  by-lines s (stopped why.ManyLines) (u .fits) (run-all (u .good) (omega arith)
+      ∙ ap (prefixed l) (turn-many (length l) (secondAfter 0 l) rest h (u .begun)) ∙ prefixed-refusal (stopped why.ManyLines) (λ e. refl) l),
+  refl,
+)
 read-refused {s} (malformed-line {l = l} {rest = rest} u h n) =
     let p : length l + 1 ≡ suc (length l) = omega arith in
-    let d = stopped (why.Malformed (suc (length l))) in
-    record {
-      why = why.Malformed (suc (length l));
-      comes = by-lines s d (u .fits) (run-all (u .good) (omega arith)
+    let d = stopped (why.Malformed (suc (length l))) in (
+      why.Malformed (suc (length l)),
+      by-lines s d (u .fits) (run-all (u .good) (omega arith)
           ∙ ap (prefixed l) (turn-malformed (length l) (secondAfter 0 l) rest h (u .begun) (no-line rest n)
           ∙ ap (λ (x : ℕ). stopped (why.Malformed x)) p)
-          ∙ prefixed-refusal d (λ e. refl) l);
-      says = refl;
-    }
+          ∙ prefixed-refusal d (λ e. refl) l),
+      refl,
+    )
 read-refused {s} (wrong-second {l = l} {rest = rest} {after = after} {e = e} u h a w) =
     let p : length l + 1 ≡ suc (length l) = omega arith in
     let f = line-found rest e after a in
-    let d = stopped (why.WrongSecond (suc (length l))) in
-    record {
-      why = why.WrongSecond (suc (length l));
-      comes = by-lines s d (u .fits) (run-all (u .good) (omega arith)
+    let d = stopped (why.WrongSecond (suc (length l))) in (
+      why.WrongSecond (suc (length l)),
+      by-lines s d (u .fits) (run-all (u .good) (omega arith)
           ∙ ap (prefixed l) (turn-wrong (length l) (secondAfter 0 l) rest h (u .begun) _ _ _ (f .1) w
           ∙ ap (λ (x : ℕ). stopped (why.WrongSecond x)) p)
-          ∙ prefixed-refusal d (λ e. refl) l);
-      says = refl;
-    }
+          ∙ prefixed-refusal d (λ e. refl) l),
+      refl,
+    )
 
 -- ---- the answer, by what the file comes to
 pub answer-of : (s ls ss : List ℕ) (d : LinesResult) → dayEvents s ≡ d → answered d ls ss ≡ dayAnswer s ls ss
@@ -293,7 +280,7 @@ accepts l n ls ss ls′ ss′ e h g p q =
 
 pub answer-is : {s ls ss : List ℕ} {a : DayAnswer} → DayMeaning s ls ss a → a ≡ dayAnswer s ls ss
 answer-is {s} {ls} {ss} (file-refused m) =
-    let g = read-refused m in
-    ap (λ (v : Verdict). told v 0 ls ss) (sym (g .says)) ∙ answer-of s ls ss (stopped (g .why)) (g .comes)
+    let (r, comes, says) = read-refused m in
+    ap (λ (v : Verdict). told v 0 ls ss) (sym says) ∙ answer-of s ls ss (stopped r) comes
 answer-is {s} {ls} {ss} (short-buffer {l = l} w h) = too-short l ls ss h ∙ answer-of s ls ss (events l) (read-events w)
 answer-is {s} {ls} {ss} (accepted {l = l} w h g) = with-room l ls ss h g ∙ answer-of s ls ss (events l) (read-events w)

@@ -14,12 +14,12 @@ use Rattle.verdict.proofs.ByReader.{ByReader, above-judge}
 use Rattle.day.specs.DayFile.{DayEvent, letterOf, secondOf}
 use Rattle.day.specs.DayLines.{LinesResult, stopped, events}
 use Rattle.day.specs.DayAnswer.{DayAnswer, refusalVerdict, acceptance, dayValues}
-use Rattle.day.specs.DayComputed.{dayEvents, answered, dayAnswer}
+use Rattle.day.specs.DayComputed.{dayEvents, ComesTo, answered, dayAnswer}
 use Rattle.day.specs.DayMeaning.{DayMeaning, DayRefused, file-refused, short-buffer, accepted}
 use Rattle.day.specs.declared.Outcome.the-variants.{Accepted, Refused}
 use Rattle.day.specs.declared.Refusal.{Refusal}
 use Rattle.day.specs.declared.Refusal.the-variants.{LongFile, Malformed, WrongSecond, ManyLines, ShortBuffer}
-use Rattle.day.proofs.Answered.{Reads, read-refused, answer-of, events-read}
+use Rattle.day.proofs.Answered.{read-refused, answer-of, events-read}
 
 pub in-row : (r : Refusal) → ByReader (refusalVerdict r)
 in-row LongFile = above-judge 11 0 (omega arith)
@@ -30,7 +30,7 @@ in-row ShortBuffer = above-judge 15 0 (omega arith)
 
 -- the number of a refusal, as the code's
 number-of : {s : List ℕ} {number place : ℕ} → DayRefused s number place → (r : Refusal) × (number ≡ refusalVerdict r .number)
-number-of m = let g = read-refused m in (g .why, sym (ap (λ (v : Verdict). v .number) (g .says)))
+number-of m = let (r, comes, says) = read-refused m in (r, sym (ap (λ (v : Verdict). v .number) says))
 
 -- a refusal is no acceptance
 pub refused-number : {s : List ℕ} {number place : ℕ} → DayRefused s number place → number ≡ 0 → ⊥
@@ -69,7 +69,7 @@ module _ (s us vs ls ss : List ℕ) where
   pub refuses : {r : Refusal} → (255 ≤ length us) × (255 ≤ length vs) → dayValues (Refused r) ls ss ≡ dayAnswer s us vs → Refuses s r
   refuses {r} room e = go (dayEvents s) refl (events-read s)
     where
-      go : (d : LinesResult) → dayEvents s ≡ d → Reads s d → Refuses s r
+      go : (d : LinesResult) → dayEvents s ≡ d → ComesTo s d → Refuses s r
       go (stopped w) q m =
           record { why = w; comes = q; says = sym (ap (λ (a : DayAnswer). record { number = a .number; place = a .place; found = a .found; count = a .count }) (e ∙ sym (answer-of s us vs (stopped w) q))) }
       go (events l) q m =
@@ -81,7 +81,7 @@ module _ (s us vs ls ss : List ℕ) where
   pub holds : {n : ℕ} → dayValues (Accepted n) ls ss ≡ dayAnswer s us vs → Holds s n ls ss
   holds {n} e = go (dayEvents s) refl (events-read s)
     where
-      go : (d : LinesResult) → dayEvents s ≡ d → Reads s d → Holds s n ls ss
+      go : (d : LinesResult) → dayEvents s ≡ d → ComesTo s d → Holds s n ls ss
       go (stopped w) q m = absurd (in-row w .number (sym (number-is (e ∙ sym (answer-of s us vs (stopped w) q)))))
       go (events l) q m =
           choose (λ (a : DayAnswer). dayValues (Accepted n) ls ss ≡ a → Holds s n ls ss) (ltb (length us) (length l) || ltb (length vs) (length l))

@@ -19,7 +19,7 @@ use Rattle.rule.proofs.Answered as rule-answered
 use Rattle.rule.proofs.Rows.{accepting, refusing, refused-number}
 use Rattle.day.specs.DayFile.{DayEvent, letterOf}
 use Rattle.day.specs.DayLines.{LinesResult, stopped, events}
-use Rattle.day.specs.DayComputed.{dayEvents, dayAnswer}
+use Rattle.day.specs.DayComputed.{dayEvents, ComesTo, dayAnswer}
 use Rattle.day.specs.DayMeaning.{Whole, DayRefused}
 use Rattle.day.specs.DayMeaning as day-meaning
 use Rattle.day.proofs.Answered as day-answered
@@ -132,7 +132,7 @@ pub data Comes (s : List ℕ) : Type 0 where
 comes-day : {s rule file : List ℕ} {t : Tree} → Parted s rule file → Passed rule t → Comes s
 comes-day {s} {rule = rule} {file = file} d p = go (dayEvents file) (day-answered.events-read file)
   where
-    go : (r : LinesResult) → day-answered.Reads file r → Comes s
+    go : (r : LinesResult) → ComesTo file r → Comes s
     go (stopped r) m = at-row (day-refused d p m)
     go (events l) w = at-judge (record { rule = rule; file = file; parted = d; passed = p; events = l; whole = w; word = refl })
 

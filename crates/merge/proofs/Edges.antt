@@ -1,4 +1,4 @@
--- The edges that document 02 g) names, by computation. Assumes nothing.
+-- Edges of 02 g), by computation. Assumes nothing.
 use Prim.Native.Nat.{ℕ}
 use Prim.Native.String.{String}
 use mathlib.Core.Path.{_≡_, refl}

@@ -9,19 +9,19 @@ use borrow.Author.Tests.{leb-true, leb-false}
 use Rattle.event.proofs.Tests.{choose}
 use Rattle.day.specs.DayFile.{DayEvent, Lines, done, more}
 use Rattle.day.specs.DayMeaning.{Whole}
-use Rattle.merge.specs.Merged.{FileEvent, of-first, of-second, eventOf, ofFirst, ofSecond, Before, Merged}
+use Rattle.merge.specs.Merged.{FileEvent, of-first, of-second, eventOf, firstEvents, secondEvents, Before, Merged}
 use Rattle.merge.specs.Merged.{Interleaving, none, from-first, from-second}
 use Rattle.merge.specs.MergeComputed.{placed, merged}
 
 -- ---- 02 g): "Each file's own order is kept, nothing is lost and nothing is added."
 -- each file's events, in order, are what is left when the other's are taken away
-pub taken-apart : {a b : List DayEvent} {l : List FileEvent} → Interleaving a b l → (ofFirst l ≡ a) × (ofSecond l ≡ b)
+pub taken-apart : {a b : List DayEvent} {l : List FileEvent} → Interleaving a b l → (firstEvents l ≡ a) × (secondEvents l ≡ b)
 taken-apart none = (refl, refl)
 taken-apart (from-first {e = e} i) = let (p, q) = taken-apart i in (ap (λ (x : List DayEvent). e ∷ x) p, q)
 taken-apart (from-second {e = e} i) = let (p, q) = taken-apart i in (p, ap (λ (x : List DayEvent). e ∷ x) q)
 
 -- .. and that says it all
-pub put-together : (l : List FileEvent) → Interleaving (ofFirst l) (ofSecond l) l
+pub put-together : (l : List FileEvent) → Interleaving (firstEvents l) (secondEvents l) l
 put-together [] = none
 put-together (of-first e ∷ l) = from-first (put-together l)
 put-together (of-second e ∷ l) = from-second (put-together l)
@@ -45,13 +45,13 @@ nothing e l p = let n = ap length p in omega arith
 later : {l : List FileEvent} {x : FileEvent} (z : FileEvent) → Stands l x → Stands (z ∷ l) x
 later z s = record { front = z ∷ s .front; rest = s .rest; parted = ap (λ (t : List FileEvent). z ∷ t) (s .parted) }
 
-first-stands : (l : List FileEvent) (e : DayEvent) (a : List DayEvent) → ofFirst l ≡ e ∷ a → Stands l (of-first e)
+first-stands : (l : List FileEvent) (e : DayEvent) (a : List DayEvent) → firstEvents l ≡ e ∷ a → Stands l (of-first e)
 first-stands [] e a p = absurd (nothing e a p)
 first-stands (of-first f ∷ l) e a p =
     let q : f ≡ e = cc in record { front = []; rest = l; parted = ap (λ (x : DayEvent). of-first x ∷ l) q }
 first-stands (of-second f ∷ l) e a p = later (of-second f) (first-stands l e a p)
 
-second-stands : (l : List FileEvent) (e : DayEvent) (b : List DayEvent) → ofSecond l ≡ e ∷ b → Stands l (of-second e)
+second-stands : (l : List FileEvent) (e : DayEvent) (b : List DayEvent) → secondEvents l ≡ e ∷ b → Stands l (of-second e)
 second-stands [] e b p = absurd (nothing e b p)
 second-stands (of-first f ∷ l) e b p = later (of-first f) (second-stands l e b p)
 second-stands (of-second f ∷ l) e b p =
@@ -73,27 +73,27 @@ tail-ordered : {l : List FileEvent} (z : FileEvent) → Ordered (z ∷ l) → Or
 tail-ordered z o = record { rising = λ x y b. o .rising x y (tail-before z b); first-first = λ x y b. o .first-first x y (tail-before z b) }
 
 -- two days of the same files do not begin with events of different files
-clash : (e f : DayEvent) (l m : List FileEvent) → e ∷ ofFirst l ≡ ofFirst m → ofSecond l ≡ f ∷ ofSecond m
+clash : (e f : DayEvent) (l m : List FileEvent) → e ∷ firstEvents l ≡ firstEvents m → secondEvents l ≡ f ∷ secondEvents m
     → Ordered (of-first e ∷ l) → Ordered (of-second f ∷ m) → ⊥
 clash e f l m p q o r =
-    let u = o .rising (of-first e) (of-second f) (head-before (of-first e) (second-stands l f (ofSecond m) q)) in
-    let b = head-before (of-second f) (first-stands m e (ofFirst l) (sym p)) in
+    let u = o .rising (of-first e) (of-second f) (head-before (of-first e) (second-stands l f (secondEvents m) q)) in
+    let b = head-before (of-second f) (first-stands m e (firstEvents l) (sym p)) in
     let v = r .rising (of-second f) (of-first e) b in
     r .first-first f e b (omega arith)
 
-same : (l m : List FileEvent) → ofFirst l ≡ ofFirst m → ofSecond l ≡ ofSecond m → Ordered l → Ordered m → l ≡ m
+same : (l m : List FileEvent) → firstEvents l ≡ firstEvents m → secondEvents l ≡ secondEvents m → Ordered l → Ordered m → l ≡ m
 same [] [] p q o r = refl
-same [] (of-first f ∷ m) p q o r = absurd (nothing f (ofFirst m) p)
-same [] (of-second f ∷ m) p q o r = absurd (nothing f (ofSecond m) q)
-same (of-first e ∷ l) [] p q o r = absurd (nothing e (ofFirst l) (sym p))
-same (of-second e ∷ l) [] p q o r = absurd (nothing e (ofSecond l) (sym q))
+same [] (of-first f ∷ m) p q o r = absurd (nothing f (firstEvents m) p)
+same [] (of-second f ∷ m) p q o r = absurd (nothing f (secondEvents m) q)
+same (of-first e ∷ l) [] p q o r = absurd (nothing e (firstEvents l) (sym p))
+same (of-second e ∷ l) [] p q o r = absurd (nothing e (secondEvents l) (sym q))
 same (of-first e ∷ l) (of-first f ∷ m) p q o r =
     let h : e ≡ f = cc in
-    let t : ofFirst l ≡ ofFirst m = cc in
+    let t : firstEvents l ≡ firstEvents m = cc in
     ap₂ (λ (x : DayEvent) (k : List FileEvent). of-first x ∷ k) h (same l m t q (tail-ordered _ o) (tail-ordered _ r))
 same (of-second e ∷ l) (of-second f ∷ m) p q o r =
     let h : e ≡ f = cc in
-    let t : ofSecond l ≡ ofSecond m = cc in
+    let t : secondEvents l ≡ secondEvents m = cc in
     ap₂ (λ (x : DayEvent) (k : List FileEvent). of-second x ∷ k) h (same l m p t (tail-ordered _ o) (tail-ordered _ r))
 same (of-first e ∷ l) (of-second f ∷ m) p q o r = absurd (clash e f l m p q o r)
 same (of-second e ∷ l) (of-first f ∷ m) p q o r = absurd (clash f e m l (sym p) (sym q) r o)
@@ -106,8 +106,8 @@ pub merged-unique : {a b : List DayEvent} {l m : List FileEvent} → Merged a b 
 merged-unique {a} {b} {l} {m} u v =
     let (p, q) = taken-apart (u .interleaved) in
     let (r, s) = taken-apart (v .interleaved) in
-    let x : ofFirst l ≡ ofFirst m = cc in
-    let y : ofSecond l ≡ ofSecond m = cc in
+    let x : firstEvents l ≡ firstEvents m = cc in
+    let y : secondEvents l ≡ secondEvents m = cc in
     same l m x y (ordered u) (ordered v)
 
 -- ---- the computed day has the definition

@@ -8,9 +8,9 @@ use lib.ListN.{length, length-map, length-append}
 use Rattle.event.specs.Event.{isEvent}
 use Rattle.day.specs.DayFile.{DayEvent, lastSecond, SecondNumeral, lineText, Lines, done, more}
 use Rattle.day.specs.DayLines.{LinesResult, stopped, events, dayLines}
-use Rattle.day.specs.DayComputed.{dayEvents, answered, dayAnswer}
+use Rattle.day.specs.DayComputed.{dayEvents, ComesTo, answered, dayAnswer}
 use Rattle.day.specs.DayMeaning.{Whole}
-use Rattle.day.proofs.Answered.{Reads, events-read, read-events, answer-of}
+use Rattle.day.proofs.Answered.{events-read, read-events, answer-of}
 use Rattle.merge.specs.Merged.{FileEvent, eventOf}
 use Rattle.merge.specs.MergeComputed.{merged, joined, afterFiles, afterFirst, mergeAnswer}
 use Rattle.merge.specs.MergeMeaning.{OneDay}
@@ -68,15 +68,14 @@ above-none : (l : List FileEvent) → All (λ (x : FileEvent). 0 ≤ eventOf x .
 above-none [] = tt
 above-none (x ∷ l) = (omega arith, above-none l)
 
--- 02 g): "with its n, as the day reader's": some day file has these events
-pub one-file : {s t : List ℕ} {l : List FileEvent} → OneDay s t l → (file : List ℕ) × Whole file (map eventOf l)
+one-file : {s t : List ℕ} {l : List FileEvent} → OneDay s t l → (file : List ℕ) × Whole file (map eventOf l)
 one-file {l = l} d =
-    let u = d .whole .first .good in
-    let v = d .whole .second .good in
-    let e = merged-only (d .whole .first) (d .whole .second) (d .merged) in
+    let u = d .whole .first-whole .good in
+    let v = d .whole .second-whole .good in
+    let e = merged-only (d .whole .first-whole) (d .whole .second-whole) (d .in-order) in
     let w : AllWritten l = subst AllWritten (sym e) (all-merged (λ (x : FileEvent). Written (eventOf x)) (d .a) (d .b) (lines-written u) (lines-written v)) in
     let o : Sorted l = subst Sorted (sym e) (sorted-merged 0 0 (d .a) (d .b) (lines-climb u) (lines-climb v)) in
-    let n = number-together (d .merged .interleaved) in
+    let n = number-together (d .in-order .interleaved) in
     let k = text-length l w in
     let j = length-map l eventOf in (
       text l w,
@@ -87,12 +86,12 @@ one-file {l = l} d =
       },
     )
 
--- .. of which the day reader answers the same
+-- 02 g): "with its n, as the day reader's": some day file has just these events, and merging answers what the day reader answers of it
 pub as-one-file : {s t : List ℕ} {l : List FileEvent} → OneDay s t l
-    → (file : List ℕ) × ((ls ss : List ℕ) → mergeAnswer s t ls ss ≡ dayAnswer file ls ss)
+    → (file : List ℕ) × Whole file (map eventOf l) × ((ls ss : List ℕ) → mergeAnswer s t ls ss ≡ dayAnswer file ls ss)
 as-one-file {s} {t} {l} d =
     let (file, w) = one-file d in
-    (file, λ ls ss. sym (one-day s t ls ss d) ∙ answer-of file ls ss (events (map eventOf l)) (read-events w))
+    (file, w, λ ls ss. sym (one-day s t ls ss d) ∙ answer-of file ls ss (events (map eventOf l)) (read-events w))
 
 -- ---- a file with no lines
 joined-none : (a : List DayEvent) → joined a [] ≡ a
@@ -114,7 +113,7 @@ unfolding mergeAnswer
 empty-second s ls ss =
     ap (λ (y : LinesResult). afterFiles (dayEvents s) y ls ss) no-lines ∙ go (dayEvents s) (events-read s) ∙ answer-of s ls ss (dayEvents s) refl
   where
-    go : (x : LinesResult) → Reads s x → afterFiles x (events []) ls ss ≡ answered x ls ss
+    go : (x : LinesResult) → ComesTo s x → afterFiles x (events []) ls ss ≡ answered x ls ss
     go (stopped r) m = refl
     go (events a) w =
         sym (few-enough a [] ls ss (omega (arith, w .few))) ∙ ap (λ (l : List DayEvent). answered (events l) ls ss) (joined-none a)
@@ -124,7 +123,7 @@ unfolding mergeAnswer
 empty-first t ls ss =
     ap (λ (x : LinesResult). afterFiles x (dayEvents t) ls ss) no-lines ∙ go (dayEvents t) (events-read t) ∙ answer-of t ls ss (dayEvents t) refl
   where
-    go : (y : LinesResult) → Reads t y → afterFirst [] y ls ss ≡ answered y ls ss
+    go : (y : LinesResult) → ComesTo t y → afterFirst [] y ls ss ≡ answered y ls ss
     go (stopped r) m = refl
     go (events b) w =
         sym (few-enough [] b ls ss (omega (arith, w .few))) ∙ ap (λ (l : List DayEvent). answered (events l) ls ss) (none-joined b)

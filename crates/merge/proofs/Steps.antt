@@ -15,12 +15,13 @@ use Rattle.day.specs.DayComputed.{dayEvents, dayAnswer, answered}
 use Rattle.day.specs.declared.Outcome as day
 use Rattle.day.specs.declared.Outcome.the-variants as day-outcome
 use Rattle.day.specs.declared.Refusal.{Refusal}
+use Rattle.day.specs.declared.Refusal.the-variants.{ShortBuffer}
 use Rattle.day.proofs.Answered.{too-short, accepts}
 use Rattle.day.proofs.Rows.{Refuses, Holds, refuses, holds}
 use Rattle.merge.specs.Merged.{eventOf}
 use Rattle.merge.specs.MergeAnswer.{mergeValues}
-use Rattle.merge.specs.MergeComputed.{merged, joined, afterBoth, afterFirst, afterFiles, paired, Fits}
-use Rattle.merge.specs.declared.Outcome.the-variants.{Accepted, DayRefused, ManyEvents, ShortBuffer}
+use Rattle.merge.specs.MergeComputed.{merged, joined, afterBoth, afterFirst, afterFiles, paired, Aligned}
+use Rattle.merge.specs.declared.Outcome.the-variants.{Accepted, Refused, ManyEvents}
 use Rattle.merge.proofs.MergedLaws.{merged-interleaved, number-together}
 use Rattle.merge.proofs.Turns.{paired-events, paired-length}
 
@@ -36,7 +37,7 @@ module _ (a b : List DayEvent) (ls ss : List ℕ) where
   pub few-enough : length a + length b ≤ 255 → answered (events (joined a b)) ls ss ≡ afterBoth a b ls ss
   few-enough h = simp (le-ltb 255 (length a + length b) h)
 
-module _ {cs xs ds ys : List ℕ} (fits1 : Fits cs xs) (fits2 : Fits ds ys) where
+module _ {cs xs ds ys : List ℕ} (aligned1 : Aligned cs xs) (aligned2 : Aligned ds ys) where
   abbrev a : List DayEvent
   a = paired cs xs
 
@@ -44,7 +45,7 @@ module _ {cs xs ds ys : List ℕ} (fits1 : Fits cs xs) (fits2 : Fits ds ys) wher
   b = paired ds ys
 
   together : length cs + length ds ≡ length a + length b
-  together = omega (arith, paired-length cs xs (fits1 .as-many), paired-length ds ys (fits2 .as-many))
+  together = omega (arith, paired-length cs xs (aligned1 .as-many), paired-length ds ys (aligned2 .as-many))
 
   as-many : length cs + length ds ≡ length (joined a b)
   as-many = together ∙ sym (joined-length a b)
@@ -54,7 +55,7 @@ module _ {cs xs ds ys : List ℕ} (fits1 : Fits cs xs) (fits2 : Fits ds ys) wher
 
   module _ (few : length cs + length ds ≤ 255) where
     pub answers-short : (ls ss : List ℕ) → (length ls < length cs + length ds) ⊎ (length ss < length cs + length ds)
-        → mergeValues ShortBuffer ls ss ≡ afterBoth a b ls ss
+        → mergeValues (Refused ShortBuffer) ls ss ≡ afterBoth a b ls ss
     answers-short ls ss h =
         too-short (joined a b) ls ss (subst (λ (n : ℕ). (length ls < n) ⊎ (length ss < n)) as-many h)
         ∙ few-enough a b ls ss (omega (arith, together))
@@ -86,15 +87,15 @@ module _ {s ls ss : List ℕ} {o : day.Outcome} (f : FileRead s ls ss o) where
         let n = length-replicate {A = ℕ} 255 0 in
         refuses s zeros zeros ls ss (omega arith, omega arith) (ap (λ (x : day.Outcome). dayValues x ls ss) (sym q) ∙ f .value)
 
-    refused : (old-ls old-ss : List ℕ) → mergeValues (DayRefused r) old-ls old-ss ≡ told (refusalVerdict (stops .why)) 0 old-ls old-ss
+    refused : (old-ls old-ss : List ℕ) → mergeValues (Refused r) old-ls old-ss ≡ told (refusalVerdict (stops .why)) 0 old-ls old-ss
     refused old-ls old-ss = ap (λ (v : Verdict). told v 0 old-ls old-ss) (sym (stops .says))
 
     pub first-stops : (d : LinesResult) (old-ls old-ss : List ℕ)
-        → mergeValues (DayRefused r) old-ls old-ss ≡ afterFiles (dayEvents s) d old-ls old-ss
+        → mergeValues (Refused r) old-ls old-ss ≡ afterFiles (dayEvents s) d old-ls old-ss
     first-stops d old-ls old-ss = refused old-ls old-ss ∙ ap (λ (x : LinesResult). afterFiles x d old-ls old-ss) (sym (stops .comes))
 
     pub second-stops : (a : List DayEvent) (old-ls old-ss : List ℕ)
-        → mergeValues (DayRefused r) old-ls old-ss ≡ afterFirst a (dayEvents s) old-ls old-ss
+        → mergeValues (Refused r) old-ls old-ss ≡ afterFirst a (dayEvents s) old-ls old-ss
     second-stops a old-ls old-ss = refused old-ls old-ss ∙ ap (λ (x : LinesResult). afterFirst a x old-ls old-ss) (sym (stops .comes))
 
   -- it is accepted: its events, the first n of each buffer, go on
@@ -108,8 +109,8 @@ module _ {s ls ss : List ℕ} {o : day.Outcome} (f : FileRead s ls ss o) where
     pub front-long : (n ≡ length (take n ls)) × (n ≡ length (take n ss))
     front-long = (sym (length-take-le n ls (within .0)), sym (length-take-le n ss (within .1)))
 
-    pub front-fits : Fits (take n ls) (take n ss)
-    front-fits = let k = front-long in record { few = omega (arith, goes .few); as-many = omega arith }
+    pub front-aligned : Aligned (take n ls) (take n ss)
+    front-aligned = let k = front-long in record { few = omega (arith, goes .few); as-many = omega arith }
 
     events-are : paired (take n ls) (take n ss) ≡ goes .l
     events-are = ap₂ paired (goes .letters) (goes .seconds) ∙ paired-events (goes .l)

@@ -9,7 +9,7 @@ use lib.ListN.{length, getD, drop, set, length-drop, length-set, drop-of-length-
 use lib.Seq.{sets}
 use Rattle.event.proofs.Tails.{tail, tail-is, rest-at}
 use Rattle.day.specs.DayFile.{DayEvent, letterOf, secondOf}
-use Rattle.merge.specs.MergeComputed.{merged, joined, paired, firstIsNext, Fits}
+use Rattle.merge.specs.MergeComputed.{merged, joined, paired, firstIsNext, Aligned}
 
 -- ---- letters and seconds as events
 pub paired-events : (l : List DayEvent) → paired (map letterOf l) (map secondOf l) ≡ l
@@ -81,7 +81,7 @@ module _ (cs xs ds ys : List ℕ) where
   pub storing-begins : (ls ss : List ℕ) → Storing ls ss ls ss 0 0
   storing-begins ls ss = record { within = (omega arith, omega arith); as-long = (refl, refl); letters = refl; seconds = refl }
 
-module _ {cs xs ds ys : List ℕ} (fits1 : Fits cs xs) (fits2 : Fits ds ys) where
+module _ {cs xs ds ys : List ℕ} (aligned1 : Aligned cs xs) (aligned2 : Aligned ds ys) where
   same-left : (i : ℕ) (s t : List ℕ) → length s ≡ length t → length (drop i s) ≡ length (drop i t)
   same-left i s t h = omega (arith, length-drop i s, length-drop i t)
 
@@ -89,19 +89,19 @@ module _ {cs xs ds ys : List ℕ} (fits1 : Fits cs xs) (fits2 : Fits ds ys) wher
       → left cs xs ds ys i j ≡ event (getD xs i 0) (getD cs i 0) ∷ left cs xs ds ys (i + 1) j
   left-first i j h t =
       let p = rest-at cs i h in
-      let q = rest-at xs i (omega (arith, fits1 .as-many)) in
+      let q = rest-at xs i (omega (arith, aligned1 .as-many)) in
       ap₂ (λ (u v : List ℕ). joined (paired u v) (paired (drop j ds) (drop j ys))) p q
       ∙ takes-first (getD cs i 0) (getD xs i 0) (drop (i + 1) cs) (drop (i + 1) xs) (drop j ds) (drop j ys)
-      (subst (λ (v : List ℕ). firstIsNext v (drop j ys) ≡ true) q t) (same-left j ds ys (fits2 .as-many))
+      (subst (λ (v : List ℕ). firstIsNext v (drop j ys) ≡ true) q t) (same-left j ds ys (aligned2 .as-many))
 
   left-second : (i j : ℕ) → j < length ds → firstIsNext (drop i xs) (drop j ys) ≡ false
       → left cs xs ds ys i j ≡ event (getD ys j 0) (getD ds j 0) ∷ left cs xs ds ys i (j + 1)
   left-second i j h t =
       let p = rest-at ds j h in
-      let q = rest-at ys j (omega (arith, fits2 .as-many)) in
+      let q = rest-at ys j (omega (arith, aligned2 .as-many)) in
       ap₂ (λ (u v : List ℕ). joined (paired (drop i cs) (drop i xs)) (paired u v)) p q
       ∙ takes-second (getD ds j 0) (getD ys j 0) (drop i cs) (drop i xs) (drop (j + 1) ds) (drop (j + 1) ys)
-      (subst (λ (v : List ℕ). firstIsNext (drop i xs) v ≡ false) q t) (same-left i cs xs (fits1 .as-many))
+      (subst (λ (v : List ℕ). firstIsNext (drop i xs) v ≡ false) q t) (same-left i cs xs (aligned1 .as-many))
 
   left-none : (i j : ℕ) → length cs ≤ i → length ds ≤ j → left cs xs ds ys i j ≡ []
   unfolding merged paired
@@ -137,13 +137,13 @@ module _ {cs xs ds ys : List ℕ} (fits1 : Fits cs xs) (fits2 : Fits ds ys) wher
       of-rests = sym (e ∙ ap₂ firstIsNext (tail-is i xs) (tail-is j ys))
 
       pub first-within : r ≡ true → i < length cs
-      first-within t = omega (arith, first-left (drop i xs) (drop j ys) (of-rests ∙ t), length-drop i xs, fits1 .as-many)
+      first-within t = omega (arith, first-left (drop i xs) (drop j ys) (of-rests ∙ t), length-drop i xs, aligned1 .as-many)
 
       pub second-within : r ≡ false → j < length ds
       second-within t =
           let p = length-drop i xs in
           let q = length-drop j ys in
-          omega (arith, second-left (drop i xs) (drop j ys) (of-rests ∙ t) (omega (arith, g .within, fits1 .as-many, fits2 .as-many)), fits2 .as-many)
+          omega (arith, second-left (drop i xs) (drop j ys) (of-rests ∙ t) (omega (arith, g .within, aligned1 .as-many, aligned2 .as-many)), aligned2 .as-many)
 
       pub storing-first : r ≡ true → Storing cs xs ds ys ls₀ ss₀ (set ls (i + j) (getD cs i 0)) (set ss (i + j) (getD xs i 0)) (i + 1) j
       storing-first t =

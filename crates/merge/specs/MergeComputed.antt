@@ -56,8 +56,8 @@ paired [] xs = []
 paired (c ∷ cs) [] = []
 paired (c ∷ cs) (x ∷ xs) = record { second = x; letter = c } ∷ paired cs xs
 
--- letters and seconds of a day's events
-pub record Fits (cs xs : List ℕ) : Type 0 where
+-- as many letters as seconds, and no more than a day may have
+pub record Aligned (cs xs : List ℕ) : Type 0 where
   pub few : length cs ≤ 255
   pub as-many : length cs ≡ length xs
 

@@ -12,22 +12,22 @@ use Rattle.merge.specs.Merged.{FileEvent, eventOf, Merged}
 
 -- both files pass the day file's row: their events are a and b
 pub record BothWhole (s t : List ℕ) (a b : List DayEvent) : Type 0 where
-  pub first : Whole s a
-  pub second : Whole t b
+  pub first-whole : Whole s a
+  pub second-whole : Whole t b
 
--- both files pass, and their events together are l, in the order of the one day
+-- both files pass, and their events, at most 255 together, are l in the order of the one day
 pub record OneDay (s t : List ℕ) (l : List FileEvent) : Type 0 where
   pub a : List DayEvent
   pub b : List DayEvent
   pub whole : BothWhole s t a b
   pub few : length a + length b ≤ 255
-  pub merged : Merged a b l
+  pub in-order : Merged a b l
 
 -- what holds of the files s and t and of the buffers ls and ss at entry, and the whole answer
 pub data MergeMeaning (s t ls ss : List ℕ) : DayAnswer → Type 0 where
-  -- "a refusal of the first file is given before one of the second": 11 to 14, place is the line of the first file
+  -- "a refusal of the first file is given before one of the second": 11 to 14, by the first file's own lines
   first-refused : {number place : ℕ} → DayRefused s number place → MergeMeaning s t ls ss (refusal number place ls ss)
-  -- 11 to 14, place is the line of the second file
+  -- 11 to 14, by the second file's own lines
   second-refused : {a : List DayEvent} {number place : ℕ} → Whole s a → DayRefused t number place
       → MergeMeaning s t ls ss (refusal number place ls ss)
   -- "22, over 255 events together, after both files and before 15"

@@ -9,6 +9,7 @@ pub data FileEvent : Type 0 where
   of-first : DayEvent → FileEvent
   of-second : DayEvent → FileEvent
 
+-- the event alone
 abbrev pub eventOf : FileEvent → DayEvent
 eventOf (of-first e) = e
 eventOf (of-second e) = e
@@ -35,13 +36,14 @@ pub record Merged (a b : List DayEvent) (l : List FileEvent) : Type 0 where
   -- "At equal seconds the first file's events come first."
   pub first-first : (x y : DayEvent) → Before l (of-second x) (of-first y) → x .second ≡ y .second → ⊥
 
--- the events of one file, in order: what is left when the other's are taken away
-abbrev pub ofFirst : List FileEvent → List DayEvent
-ofFirst [] = []
-ofFirst (of-first e ∷ l) = e ∷ ofFirst l
-ofFirst (of-second e ∷ l) = ofFirst l
+-- the first file's events, in order: what is left when the second file's are taken away
+abbrev pub firstEvents : List FileEvent → List DayEvent
+firstEvents [] = []
+firstEvents (of-first e ∷ l) = e ∷ firstEvents l
+firstEvents (of-second e ∷ l) = firstEvents l
 
-abbrev pub ofSecond : List FileEvent → List DayEvent
-ofSecond [] = []
-ofSecond (of-first e ∷ l) = ofSecond l
-ofSecond (of-second e ∷ l) = e ∷ ofSecond l
+-- the second file's events, in order: what is left when the first file's are taken away
+abbrev pub secondEvents : List FileEvent → List DayEvent
+secondEvents [] = []
+secondEvents (of-first e ∷ l) = secondEvents l
+secondEvents (of-second e ∷ l) = e ∷ secondEvents l

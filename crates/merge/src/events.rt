@@ -5,7 +5,7 @@ ghost use Prim.Native.Nat.{_+_, _≤_};
 ghost use lib.ListN.{length};
 ghost use lib.Seq.{sets};
 ghost use Rattle.day.specs.DayFile.{letterOf, secondOf};
-ghost use Rattle.merge.specs.MergeComputed.{joined, paired, firstIsNext, Fits};
+ghost use Rattle.merge.specs.MergeComputed.{joined, paired, firstIsNext, Aligned};
 
 // Whether the next event is the first file's, by the seconds that are left of each file.
 fn first_is_next(seconds1: &[u32], seconds2: &[u32]) -> bool
@@ -20,7 +20,7 @@ fn first_is_next(seconds1: &[u32], seconds2: &[u32]) -> bool
     seconds1[0] <= seconds2[0]
 }
 
-// Stores the events of both.
+// Stores the events of both files, in the order of the one day.
 pub fn fill(
     letters1: &[u8],
     seconds1: &[u32],
@@ -29,7 +29,7 @@ pub fn fill(
     letters: &mut [u8],
     seconds: &mut [u32],
 )
-    requires { ⌜ Fits (now letters1) (now seconds1) × Fits (now letters2) (now seconds2) ⌝ }
+    requires { ⌜ Aligned (now letters1) (now seconds1) × Aligned (now letters2) (now seconds2) ⌝ }
     requires { ⌜ (length (now letters1) + length (now letters2) ≤ length (now letters))
         × (length (now letters1) + length (now letters2) ≤ length (now seconds)) ⌝ }
     ensures { λ _. ⌜ now (letters .exit) ≡ sets (now (letters .entry)) 0 (map letterOf

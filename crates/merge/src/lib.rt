@@ -9,18 +9,17 @@ use verdict::Verdict;
 ghost use mathlib.Core.Path.{_≡_};
 ghost use Rattle.day.specs.DayComputed.{dayEvents};
 ghost use Rattle.merge.specs.MergeAnswer.{outcomeVerdict, eventCount, mergeValues};
-ghost use Rattle.merge.specs.MergeComputed.{afterFirst, afterBoth, mergeAnswer, paired, Fits};
+ghost use Rattle.merge.specs.MergeComputed.{afterFirst, afterBoth, mergeAnswer, paired, Aligned};
 ghost use Rattle.merge.specs.MergeMeaning.{MergeMeaning};
 
 // How many events a day has at most.
 const MOST_EVENTS: usize = 255;
 
-// Accepted, with the number of events; or refused: one of the files, or for their events together.
+// Accepted, with the number of events; refused as the day reader refuses a file, or for its buffers; or refused for too many events together.
 pub enum Outcome {
     Accepted(usize),
-    DayRefused(DayRefusal),
+    Refused(DayRefusal),
     ManyEvents,
-    ShortBuffer,
 }
 
 // Merges two day files by rising second, the first file's events first at equal seconds: all is judged before anything is written.
@@ -35,7 +34,7 @@ pub fn merge(first: &[u8], second: &[u8], letters: &mut [u8], seconds: &mut [u32
     let mut letters1 = [0u8; MOST_EVENTS];
     let mut seconds1 = [0u32; MOST_EVENTS];
     match day::read(first, &mut letters1, &mut seconds1) {
-        DayOutcome::Refused(refusal1) => Outcome::DayRefused(refusal1),
+        DayOutcome::Refused(refusal1) => Outcome::Refused(refusal1),
         DayOutcome::Accepted(n1) => merge_second(
             &letters1[..n1],
             &seconds1[..n1],
@@ -54,7 +53,7 @@ fn merge_second(
     letters: &mut [u8],
     seconds: &mut [u32],
 ) -> Outcome
-    requires { ⌜ Fits (now letters1) (now seconds1) ⌝ }
+    requires { ⌜ Aligned (now letters1) (now seconds1) ⌝ }
     ensures { λ r. ⌜
         mergeValues r (now (letters .exit)) (now (seconds .exit))
         ≡ afterFirst (paired (now (letters1 .entry)) (now (seconds1 .entry))) (dayEvents (now (second .entry)))
@@ -63,7 +62,7 @@ fn merge_second(
     let mut letters2 = [0u8; MOST_EVENTS];
     let mut seconds2 = [0u32; MOST_EVENTS];
     match day::read(second, &mut letters2, &mut seconds2) {
-        DayOutcome::Refused(refusal2) => Outcome::DayRefused(refusal2),
+        DayOutcome::Refused(refusal2) => Outcome::Refused(refusal2),
         DayOutcome::Accepted(n2) => merge_events(
             letters1,
             seconds1,
@@ -84,7 +83,7 @@ fn merge_events(
     letters: &mut [u8],
     seconds: &mut [u32],
 ) -> Outcome
-    requires { ⌜ Fits (now letters1) (now seconds1) × Fits (now letters2) (now seconds2) ⌝ }
+    requires { ⌜ Aligned (now letters1) (now seconds1) × Aligned (now letters2) (now seconds2) ⌝ }
     ensures { λ r. ⌜
         mergeValues r (now (letters .exit)) (now (seconds .exit))
         ≡ afterBoth (paired (now (letters1 .entry)) (now (seconds1 .entry))) (paired (now (letters2 .entry)) (now (seconds2 .entry)))
@@ -95,7 +94,7 @@ fn merge_events(
         return Outcome::ManyEvents;
     }
     if letters.len() < n || seconds.len() < n {
-        return Outcome::ShortBuffer;
+        return Outcome::Refused(DayRefusal::ShortBuffer);
     }
     fill(letters1, seconds1, letters2, seconds2, letters, seconds);
     Outcome::Accepted(n)
@@ -107,9 +106,8 @@ pub fn outcome_verdict(outcome: Outcome) -> Verdict
 {
     match outcome {
         Outcome::Accepted(n) => verdict::acceptance(0, 0),
-        Outcome::DayRefused(refusal) => day::refusal_verdict(refusal),
+        Outcome::Refused(refusal) => day::refusal_verdict(refusal),
         Outcome::ManyEvents => verdict::refusal(22, 0),
-        Outcome::ShortBuffer => verdict::refusal(15, 0),
     }
 }
 
@@ -119,8 +117,7 @@ pub fn event_count(outcome: Outcome) -> usize
 {
     match outcome {
         Outcome::Accepted(n) => n,
-        Outcome::DayRefused(refusal) => 0,
+        Outcome::Refused(refusal) => 0,
         Outcome::ManyEvents => 0,
-        Outcome::ShortBuffer => 0,
     }
 }

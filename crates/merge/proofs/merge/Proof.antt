@@ -3,7 +3,7 @@ use mathlib.Core.Path.{_∙_}
 use borrow.Author.Needs.{needs}
 use Rattle.day.specs.DayComputed.{dayEvents}
 use Rattle.merge.proofs.Answered.{answers}
-use Rattle.merge.proofs.Steps.{file-read, first-stops, first-goes, within, front-long, front-fits}
+use Rattle.merge.proofs.Steps.{file-read, first-stops, first-goes, within, front-long, front-aligned}
 use Rattle.merge.proofs.merge.Statement.{statement}
 use Rattle.merge.proofs.merge.Tie as tie
 
@@ -44,7 +44,7 @@ merge-spec =
     let a = r .before .before .before .before .before .before .before .args in
     let m = c .before .before .before .before .before .n1 .given in
     let f = file-read (a .first .now) (r .read .result) (r .read .ensures .0) (r .read .kept .1 .0) (r .read .kept .1 .1 .0) in
-    front-fits f (m .0 .0) (m .1))
+    front-aligned f (m .0 .0) (m .1))
     (λ c.
     let m = c .before .refusal1 .given in
     let r = c .before .before .before .before .before in

@@ -2,7 +2,7 @@
 use mathlib.Core.Path.{_∙_}
 use borrow.Author.Needs.{needs}
 use Rattle.merge.specs.MergeComputed.{paired}
-use Rattle.merge.proofs.Steps.{file-read, second-stops, second-goes, within, front-long, front-fits}
+use Rattle.merge.proofs.Steps.{file-read, second-stops, second-goes, within, front-long, front-aligned}
 use Rattle.merge.proofs.merge_second.Statement.{statement}
 use Rattle.merge.proofs.merge_second.Tie as tie
 
@@ -43,7 +43,7 @@ merge-second-spec =
     let a = r .before .before .before .before .before .before .before .before .args in
     let m = c .before .before .before .before .before .n2 .given in
     let f = file-read (a .second .now) (r .read .result) (r .read .ensures .0) (r .read .kept .1 .0) (r .read .kept .1 .1 .0) in
-    (r .before .before .before .before .before .before .before .before .pre, front-fits f (m .0 .0) (m .1)))
+    (r .before .before .before .before .before .before .before .before .pre, front-aligned f (m .0 .0) (m .1)))
     (λ c.
     let m = c .before .refusal2 .given in
     let r = c .before .before .before .before .before in

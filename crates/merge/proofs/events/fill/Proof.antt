@@ -36,21 +36,21 @@ fill-spec =
     let f = t .before in
     let l = f .before .before .before in
     let p = l .before .before .before .before .before .before .before .before .pre in
-    let h = first-within (p .0 .0) (p .0 .1) (l .before .loop .inv) (omega (arith, l .loop-test .taken)) (f .first-is-next .ensures) (t .if1 .taken) in
+    let h = first-within (p .0 .0) (p .0 .1) (l .before .loop .inv) (omega (arith, l .loop-test .taken, l .before .loop .inv .within)) (f .first-is-next .ensures) (t .if1 .taken) in
     omega (arith, h))
     (λ c.
     let t = c .before in
     let f = t .before in
     let l = f .before .before .before in
     let p = l .before .before .before .before .before .before .before .before .pre in
-    omega (arith, l .before .loop .inv .as-long, p .1, l .loop-test .taken))
+    omega (arith, l .before .loop .inv .as-long, p .1, l .loop-test .taken, l .before .loop .inv .within))
     (λ c. search needs)
     (λ c.
     let t = c .before .before in
     let f = t .before in
     let l = f .before .before .before in
     let p = l .before .before .before .before .before .before .before .before .pre in
-    let h = first-within (p .0 .0) (p .0 .1) (l .before .loop .inv) (omega (arith, l .loop-test .taken)) (f .first-is-next .ensures) (t .if1 .taken) in
+    let h = first-within (p .0 .0) (p .0 .1) (l .before .loop .inv) (omega (arith, l .loop-test .taken, l .before .loop .inv .within)) (f .first-is-next .ensures) (t .if1 .taken) in
     omega (arith, p .0 .0 .as-many))
     (λ c. search needs)
     (λ c.
@@ -58,40 +58,40 @@ fill-spec =
     let f = t .before in
     let l = f .before .before .before in
     let p = l .before .before .before .before .before .before .before .before .pre in
-    omega (arith, l .before .loop .inv .as-long, p .1, l .loop-test .taken))
+    omega (arith, l .before .loop .inv .as-long, p .1, l .loop-test .taken, l .before .loop .inv .within))
     (λ c. search needs)
     (λ c.
     let t = c .before .before in
     let f = t .before in
     let l = f .before .before .before in
     let p = l .before .before .before .before .before .before .before .before .pre in
-    omega (arith, l .loop-test .taken))
+    omega (arith, l .loop-test .taken, l .before .loop .inv .within))
     (λ c.
     let t = c .before .before in
     let f = t .before in
     let l = f .before .before .before in
     let p = l .before .before .before .before .before .before .before .before .pre in
-    storing-first (p .0 .0) (p .0 .1) (l .before .loop .inv) (omega (arith, l .loop-test .taken)) (f .first-is-next .ensures) (t .if1 .taken))
+    storing-first (p .0 .0) (p .0 .1) (l .before .loop .inv) (omega (arith, l .loop-test .taken, l .before .loop .inv .within)) (f .first-is-next .ensures) (t .if1 .taken))
     (λ c.
     let t = c .before in
     let f = t .before in
     let l = f .before .before .before in
     let p = l .before .before .before .before .before .before .before .before .pre in
-    let h = second-within (p .0 .0) (p .0 .1) (l .before .loop .inv) (omega (arith, l .loop-test .taken)) (f .first-is-next .ensures) (t .if1 .left) in
+    let h = second-within (p .0 .0) (p .0 .1) (l .before .loop .inv) (omega (arith, l .loop-test .taken, l .before .loop .inv .within)) (f .first-is-next .ensures) (t .if1 .left) in
     omega (arith, h))
     (λ c.
     let t = c .before in
     let f = t .before in
     let l = f .before .before .before in
     let p = l .before .before .before .before .before .before .before .before .pre in
-    omega (arith, l .before .loop .inv .as-long, p .1, l .loop-test .taken))
+    omega (arith, l .before .loop .inv .as-long, p .1, l .loop-test .taken, l .before .loop .inv .within))
     (λ c. search needs)
     (λ c.
     let t = c .before .before in
     let f = t .before in
     let l = f .before .before .before in
     let p = l .before .before .before .before .before .before .before .before .pre in
-    let h = second-within (p .0 .0) (p .0 .1) (l .before .loop .inv) (omega (arith, l .loop-test .taken)) (f .first-is-next .ensures) (t .if1 .left) in
+    let h = second-within (p .0 .0) (p .0 .1) (l .before .loop .inv) (omega (arith, l .loop-test .taken, l .before .loop .inv .within)) (f .first-is-next .ensures) (t .if1 .left) in
     omega (arith, p .0 .1 .as-many))
     (λ c. search needs)
     (λ c.
@@ -99,22 +99,22 @@ fill-spec =
     let f = t .before in
     let l = f .before .before .before in
     let p = l .before .before .before .before .before .before .before .before .pre in
-    omega (arith, l .before .loop .inv .as-long, p .1, l .loop-test .taken))
+    omega (arith, l .before .loop .inv .as-long, p .1, l .loop-test .taken, l .before .loop .inv .within))
     (λ c. search needs)
     (λ c.
     let t = c .before .before in
     let f = t .before in
     let l = f .before .before .before in
     let p = l .before .before .before .before .before .before .before .before .pre in
-    omega (arith, l .loop-test .taken))
+    omega (arith, l .loop-test .taken, l .before .loop .inv .within))
     (λ c.
     let t = c .before .before in
     let f = t .before in
     let l = f .before .before .before in
     let p = l .before .before .before .before .before .before .before .before .pre in
-    storing-second (p .0 .0) (p .0 .1) (l .before .loop .inv) (omega (arith, l .loop-test .taken)) (f .first-is-next .ensures) (t .if1 .left))
+    storing-second (p .0 .0) (p .0 .1) (l .before .loop .inv) (omega (arith, l .loop-test .taken, l .before .loop .inv .within)) (f .first-is-next .ensures) (t .if1 .left))
     (λ c. c .before .loop .inv .as-long .0)
     (λ c. c .before .loop .inv .as-long .1)
     (λ c.
     let p = c .before .before .before .before .before .before .before .before .pre in
-    storing-ends (p .0 .0) (p .0 .1) (c .before .loop .inv) (omega (arith, c .loop-test .left))))
+    storing-ends (p .0 .0) (p .0 .1) (c .before .loop .inv) (omega (arith, c .loop-test .left, c .before .loop .inv .within))))
