@@ -1,5 +1,5 @@
 -- The one day of two: nothing is lost or added, its definition determines it, and the computed one has it. Assumes nothing.
-use Prim.Native.Nat.{ℕ, _+_, _≤_, _<_}
+use Prim.Native.Nat.{ℕ, suc, _+_, _≤_, _<_}
 use native.Mathlib.Omega.{arith}
 use mathlib.Core.Path.{_≡_, refl, sym, ap, ap₂, subst}
 use mathlib.Core.List.{List, [], _∷_, _++_, map}
@@ -128,10 +128,6 @@ above : (x y : ℕ) (l : List DayEvent) → x ≤ y → Climbs y l → All (λ (
 above x y [] h c = tt
 above x y (e ∷ l) h c = (omega arith, above x (e .second) l (omega arith) (c .1))
 
-below : (x y : ℕ) (l : List DayEvent) → x < y → Climbs y l → All (λ (e : DayEvent). x < e .second) l
-below x y [] h c = tt
-below x y (e ∷ l) h c = (omega arith, below x (e .second) l (omega arith) (c .1))
-
 -- y may stand behind x
 abbrev pub Follows : FileEvent → FileEvent → Type 0
 Follows (of-first x) (of-first y) = x .second ≤ y .second
@@ -179,7 +175,7 @@ sorted-placed e a c n z (f ∷ b) g =
     (λ t.
     let h = leb-false _ _ t in (
       all-placed (Follows (of-second f)) e (merged a) h
-          (λ k u. all-merged (Follows (of-second f)) a k (below (f .second) (e .second) a h c) u) b
+          (λ k u. all-merged (Follows (of-second f)) a k (above (suc (f .second)) (e .second) a h c) u) b
           (above (f .second) (f .second) b (omega arith) (g .1)),
       sorted-placed e a c n (f .second) b (g .1),
     ))
