@@ -9,14 +9,14 @@ help:
 	@echo "make prove     the proofs alone, from what has changed"
 	@echo "make times     the check's time: proves all from nothing, the seconds of each crate as a table; BEFORE=commit proves that first"
 	@echo "make library   the static library for C; says where it is and how to link it"
-	@echo "make install   puts header, archive, both programs and a pkg-config file under PREFIX (/usr/local)"
+	@echo "make install   puts header, archive, program and a pkg-config file under PREFIX (/usr/local)"
 	@echo "make second    builds the second program: second/target/release/second"
 	@echo "make compare   more random cases against the second program: N=n library calls and n/10 jobs, SEED=n for others"
 	@echo "make bench     measures speed: the judge and the program beside two unproved ones and foma, and the judge's stack"
 
 EXAMPLE ?= examples/held_open.job
 run:
-	@echo "proving what is not proved yet: 5 to 8 minutes the first time, a line for each of 23 crates"
+	@echo "proving what is not proved yet: 5 to 8 minutes the first time, a line for each of 22 crates"
 	@rt check checker | grep --line-buffered -E '^rt:|error'
 	@echo "the job, $(EXAMPLE):"
 	@cat $(EXAMPLE)
@@ -40,7 +40,7 @@ library:
 
 PREFIX ?= /usr/local
 install: library
-	@rt check checker leftmost | grep --line-buffered -E '^rt:|error'
+	@rt check checker | grep --line-buffered -E '^rt:|error'
 	@scripts/install "$(PREFIX)"
 
 second:
@@ -49,8 +49,8 @@ second:
 SEED ?= 2
 N ?= 200000
 compare:
-	scripts/compare_definitions $(SEED) 400 400 400 400
-	rt check case_runner checker leftmost
+	scripts/compare_definitions $(SEED) 400 400 400
+	rt check case_runner checker
 	scripts/compare_answers $(SEED) 100
 	rt staticlib wuzlevor
 	scripts/compare_proved $(SEED) $(N) $$(($(N) / 10))

@@ -24,7 +24,7 @@
  * for, the call returns WUZ_UNANSWERED and writes nothing: no buffer changes, `answer` included.
  *
  * Numbers. 0 is acceptance. On a refusal place, found, count and the call's own values are 0 unless said here, and no buffer but
- * `answer` changes, except, on 10, the table and the list of wuz_judge_starts.
+ * `answer` changes, except the table on 10.
  *
  *   the job's first line
  *   16  it is not R, tab, bytes up to a newline
@@ -50,17 +50,16 @@
  *   12  a line is not of the form; place: the line, from 1
  *   13  a second is over 89,999 or below the line before; place: the line
  *   14  a 256th line has begun, whatever stands in it; place: 256
- *   15  `letters` or `seconds` is shorter than the day; of wuz_run_job, wuz_run_leftmost and
+ *   15  `letters` or `seconds` is shorter than the day; of wuz_run_job and
  *       wuz_rewrite_rule, after all else: `out` is shorter than the text
  *   or two days, of wuz_merge_days: 11 to 14 of the first file, and then of the second, each by its own lines; then 22; 15 last, where `letters`
  *   or `seconds` is shorter than both days together
  *   22  the two files have over 255 events together
- *   or, for wuz_judge, wuz_judge_starts and wuz_judge_rule_file, after the rule or the file: the first of these that fits
+ *   or, for wuz_judge and wuz_judge_rule_file, after the rule or the file: the first of these that fits
  *    7  the word is over 255 events
  *    8  it has a byte that is no letter; place: the offset of the first one
  *    9  the table has fewer numbers than are needed
- *   23  the list of wuz_judge_starts has fewer than n + 1 records, n being the number of events
- *   10  the work count is above the limit; count: the limit; the needed numbers of the table are all 0, and so are the first n + 1 records
+ *   10  the work count is above the limit; count: the limit; the needed numbers of the table are all 0
  */
 #ifndef WUZLEVOR_H
 #define WUZLEVOR_H
@@ -72,8 +71,8 @@
 extern "C" {
 #endif
 
-/* The elements that each call writes to its answer (wuz_judge_starts and wuz_judge_rule_file as many as wuz_judge, wuz_run_leftmost as many as
- * wuz_run_job), and those that `nodes` and `lines` must have. */
+/* The elements that each call writes to its answer (that of wuz_judge_rule_file is wuz_judge's), and those that `nodes` and `lines` must
+ * have. */
 #define WUZ_RULE_ANSWER 6
 #define WUZ_RULE_FILE_ANSWER 5
 #define WUZ_DAY_ANSWER 5
@@ -88,16 +87,13 @@ extern "C" {
 /* Returned by a call that has no room for its answer; no number of the table above. */
 #define WUZ_UNANSWERED UINT64_MAX
 
-/* The most that a rule, a day and its file, the table of a judgement, its list of starts, its work count, the text of a job and the text of a
- * leftmost listing can be. */
+/* The most that a rule, a day and its file, the table of a judgement, its work count and the text of a job can be. */
 #define WUZ_MOST_RULE 255
 #define WUZ_MOST_EVENTS 255
 #define WUZ_MOST_DAY_FILE 2550
 #define WUZ_MOST_TABLE 8192
-#define WUZ_MOST_STARTS 256
 #define WUZ_MOST_WORK 4210688
 #define WUZ_MOST_TEXT 328985
-#define WUZ_MOST_LEFTMOST 2550
 
 /* Reads a rule text. answer (6): number, place, 0, 0, m, k: the rule has m nodes, k of them & or !.
  * nodes (128 at least): on acceptance the first 2 * m are written, for each node its byte offset and its kind, left side, right side, then
@@ -131,18 +127,6 @@ uint64_t wuz_read_day(const uint8_t *file, size_t file_len, uint8_t *letters, si
 uint64_t wuz_judge(const uint8_t *rule, size_t rule_len, const uint8_t *word, size_t word_len, uint64_t limit, uint64_t *table,
                    size_t table_len, uint64_t *answer, size_t answer_len);
 
-/* What begins at a start i: how many spans (i, j) obey, the empty one included; the end j of the shortest of them; that of the longest. All
- * three are 0 where none does; a start with its empty span alone has 1, i, i. */
-typedef struct {
-    uint32_t spans, shortest, longest;
-} wuz_start;
-
-/* Judges every span of a word by a rule, as wuz_judge does, and lists what begins at each start. answer (4) and table: as of wuz_judge.
- * list: on acceptance the first n + 1 records are written, that of start i at index i; on 10 these are all zero; what follows is not touched.
- * Numbers: 0 to 10, 20, 21, 23. */
-uint64_t wuz_judge_starts(const uint8_t *rule, size_t rule_len, const uint8_t *word, size_t word_len, uint64_t limit, uint64_t *table,
-                          size_t table_len, wuz_start *list, size_t list_len, uint64_t *answer, size_t answer_len);
-
 /* Judges every span of a word by the rule of a file's last line, as wuz_judge does by a rule: m and k, and the order of the blocks, are
  * those of that line's replaced text. answer (4) and table: as of wuz_judge.
  * Numbers: 0 to 10, 16 to 21. */
@@ -155,14 +139,6 @@ uint64_t wuz_judge_rule_file(const uint8_t *file, size_t file_len, const uint8_t
  * What follows is not touched.
  * Numbers: 0 to 6, 11 to 16, 20, 21. */
 uint64_t wuz_run_job(const uint8_t *job, size_t job_len, uint8_t *out, size_t out_len, uint64_t *answer, size_t answer_len);
-
-/* Runs a job, and lists its spans by the leftmost rule: from place 0, the smallest start at or after the place with a span that obeys and is
- * not empty, then the longest such span, then on from its end. Spans that touch are both listed, spans that overlap never are.
- * answer (5): number, place, found, count, n: the text has n bytes; found and count are those of wuz_run_job, so found counts all spans.
- * out: on acceptance the first n bytes are written, a line S, i, j for each span of the listing, as wuz_run_job writes them, and no line H;
- * no bytes where there is no such span. What follows is not touched.
- * Numbers: 0 to 6, 11 to 16, 20, 21. */
-uint64_t wuz_run_leftmost(const uint8_t *job, size_t job_len, uint8_t *out, size_t out_len, uint64_t *answer, size_t answer_len);
 
 /* Rewrites a stored rule, in which a * may stand directly after a *: each run of * becomes one *, and nothing else changes. answer (5):
  * number, place, 0, 0, n: the new text has n bytes, no more than the old one. All but 21 is judged on the text as given, so a rule of 65

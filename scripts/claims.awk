@@ -1,5 +1,5 @@
 # Turns the second program's lines into claims for the checker: each says that a definition computes to what the second program says.
-# KIND says which lines these are: those of `second cases`, of `second readings`, of `second merges` or of `second starts`.
+# KIND says which lines these are: those of `second cases`, of `second readings` or of `second merges`.
 BEGIN {
     FS = "\t"
     kind["0"] = "Empty"; kind["1"] = "Epsilon"; kind["|"] = "Union"; kind["&"] = "Intersection"
@@ -7,7 +7,6 @@ BEGIN {
     source["1"] = "of-first"; source["2"] = "of-second"
     unfolded = "treeOf parse leafAt leading gathered bitOf records scanFrom unorderedFrom doubleFrom isEvent holds hasBit obeying accepts fullCount found block obeys packedRun packed onesOf ones"
     if (KIND == "merges") unfolded = "merged"
-    if (KIND == "starts") unfolded = "treeOf parse leafAt leading gathered bitOf isEvent holds hasBit accepts obeys tallyBelow firstBelow lastBelow leftmostFrom"
 }
 
 function claim(text) {
@@ -74,15 +73,6 @@ KIND == "cases" {
 }
 
 KIND == "merges" { claim("merged " events_list($1) " " events_list($2) " ≡ " merged_list($3)) }
-
-# the ends that are looked at are bounded by the word's length, which `begins` of the starts allows
-KIND == "starts" {
-    n = split($3, items, ";")
-    for (i = 1; i <= n; i++) { gsub(":", " ", items[i]); items[i] = "start " items[i] }
-    list = "(listed (λ i. startBy (obeys (bytes \"" $2 "\") (treeOf (bytes \"" $1 "\")) i) " n ") " n ")"
-    claim(list " ≡ " join_list(items, n))
-    claim("leftmostFrom 0 0 " list " ≡ " spans_list($4))
-}
 
 KIND == "readings" && $2 == 4 { claim("scanned (bytes \"" $1 "\") ≡ Broken " $3) }
 

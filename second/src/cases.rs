@@ -1,62 +1,32 @@
-//! The lines that the commands `cases`, `starts`, `readings` and `merges` print.
+//! The lines that the commands `cases`, `readings` and `merges` print.
 
 use crate::day::{self, Record};
 use crate::generate::{alphabet, change_byte, random_byte, sentence, spoil_leaf, word, Bounds};
-use crate::judge::{judge, judge_starts};
-use crate::leftmost::{self, Span};
+use crate::judge::judge;
 use crate::limits::{MAX_NODES, MAX_RULE_BYTES, MAX_SPECIAL, MAX_WORD};
 use crate::random::Random;
 use crate::random_stars::repeat_stars;
-use crate::starts::{self, Start};
 use crate::{merge, printed, random_merges, rule, table};
 
 /// One line of the command `cases`: rule text, word, found spans, full work count, m and k.
 pub fn case_line(random: &mut Random, rule_bytes: usize, word_length: usize) -> String {
-    let (text, word) = sentence_and_word(random, rule_bytes, word_length);
-    let rule = rule::read(&text).expect("a random sentence is within the limits");
-    let (m, k, n) = (rule.m(), rule.k(), word.len());
-    let mut table = vec![0; table::need(k, n)];
-    let count = judge(&text, &word, u64::MAX, &mut table).count;
-    let spans = shown_spans(&table::found_spans(&table, n));
-    let (text, word) = (as_text(&text), as_text(&word));
-    format!("{text}\t{word}\t{spans}\t{count}\t{m}\t{k}\n")
-}
-
-/// One line of the command `starts`: rule text, word, the record of each start, and the leftmost
-/// listing.
-pub fn start_line(random: &mut Random, rule_bytes: usize, word_length: usize) -> String {
-    let (text, word) = sentence_and_word(random, rule_bytes, word_length);
-    let n = word.len();
-    let mut table = vec![0; table::need(MAX_SPECIAL, n)];
-    let mut list = vec![Start::default(); starts::need(n)];
-    judge_starts(&text, &word, u64::MAX, &mut table, &mut list);
-    let starts = printed::list(list.iter().map(Start::to_string), ";");
-    let listing = shown_spans(&leftmost::listing(&table::found_spans(&table, n)));
-    let (text, word) = (as_text(&text), as_text(&word));
-    format!("{text}\t{word}\t{starts}\t{listing}\n")
-}
-
-/// A random sentence of at most so many bytes that the judge takes, and a word of at most so many of
-/// its letters.
-fn sentence_and_word(
-    random: &mut Random,
-    rule_bytes: usize,
-    word_length: usize,
-) -> (Vec<u8>, Vec<u8>) {
+    let bytes = rule_bytes.clamp(1, MAX_RULE_BYTES);
     let bounds = Bounds {
-        bytes: rule_bytes.clamp(1, MAX_RULE_BYTES),
+        bytes,
         nodes: MAX_NODES,
         special: MAX_SPECIAL,
     };
     let letters = alphabet(random);
     let text = sentence(random, letters, &bounds);
     let word = word(random, letters, word_length.min(MAX_WORD));
-    (text, word)
-}
-
-/// Spans as `i,j`, or a dash where there are none.
-fn shown_spans(spans: &[Span]) -> String {
-    printed::list(spans.iter().map(|(i, j)| format!("{i},{j}")), ";")
+    let rule = rule::read(&text).expect("a random sentence is within the limits");
+    let (m, k, n) = (rule.m(), rule.k(), word.len());
+    let mut table = vec![0; table::need(k, n)];
+    let count = judge(&text, &word, u64::MAX, &mut table).count;
+    let spans = table::found_spans(&table, n);
+    let spans = printed::list(spans.iter().map(|(i, j)| format!("{i},{j}")), ";");
+    let (text, word) = (as_text(&text), as_text(&word));
+    format!("{text}\t{word}\t{spans}\t{count}\t{m}\t{k}\n")
 }
 
 /// One line of the command `readings`: text, number, place, m, k and the records.

@@ -1,8 +1,7 @@
-//! The programs: a job comes in, a few lines of text go out.
+//! The program: a job comes in, a few lines of text go out.
 
 use std::io::{self, Read};
 
-use crate::leftmost::{self, Span};
 use crate::limits::{MAX_DAY_LINES, MAX_JOB_BYTES, MAX_LIMIT};
 use crate::refusal::{Reason, Refusal};
 use crate::{day, judge, rule, table};
@@ -14,33 +13,22 @@ pub fn read(source: impl Read) -> io::Result<Vec<u8>> {
     Ok(job)
 }
 
-/// The output of document 01's program for a job.
+/// The output for a job.
 pub fn output(job: &[u8]) -> String {
-    printed(job, Report::lines)
-}
-
-/// The output of the program `leftmost` for a job.
-pub fn leftmost_output(job: &[u8]) -> String {
-    printed(job, Report::leftmost_lines)
-}
-
-/// The lines of an accepted job, or the line of a refusal.
-fn printed(job: &[u8], lines: fn(&Report) -> String) -> String {
     match judge_job(job) {
-        Ok(report) => lines(&report),
+        Ok(report) => report.lines(),
         Err((number, place)) => format!("X\t{number}\t{place}\n"),
     }
 }
 
-/// What the outputs for an accepted job say.
+/// What the output for an accepted job says.
 pub struct Report {
     n: usize,
     m: usize,
     k: usize,
     pub found: u64,
     pub count: u64,
-    /// All that obey, by rising i and then rising j.
-    pub spans: Vec<Span>,
+    spans: Vec<(usize, usize)>,
 }
 
 impl Report {
@@ -54,22 +42,12 @@ impl Report {
             count,
             spans,
         } = self;
-        let heading = format!("H\t{n}\t{m}\t{k}\t{found}\t{count}\n");
-        heading + &span_lines(spans)
+        let mut lines = format!("H\t{n}\t{m}\t{k}\t{found}\t{count}\n");
+        for (i, j) in spans {
+            lines.push_str(&format!("S\t{i}\t{j}\n"));
+        }
+        lines
     }
-
-    /// A line for each span of the leftmost listing.
-    pub fn leftmost_lines(&self) -> String {
-        span_lines(&leftmost::listing(&self.spans))
-    }
-}
-
-/// A line for each span.
-fn span_lines(spans: &[Span]) -> String {
-    spans
-        .iter()
-        .map(|(i, j)| format!("S\t{i}\t{j}\n"))
-        .collect()
 }
 
 /// Passes a job through the rows of the refusal table; a refusal is a number and a place.

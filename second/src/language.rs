@@ -21,7 +21,7 @@ impl Spans {
     }
 
     /// The length of the word.
-    pub fn n(&self) -> usize {
+    fn n(&self) -> usize {
         self.rows.len() - 1
     }
 

@@ -1,5 +1,4 @@
-//! The binary `second`: the programs of document 01 and of request h), and the commands that print
-//! cases or answers.
+//! The binary `second`: the program of document 01, and the commands that print cases or answers.
 
 use std::env;
 use std::fs::File;
@@ -12,9 +11,7 @@ use second::stream::Case;
 use second::{answers, cases, draw, edges, job, stream};
 
 const USAGE: &str = "usage: second < JOB
-       second leftmost < JOB
        second cases SEED COUNT MAX_RULE_BYTES MAX_WORD
-       second starts SEED COUNT MAX_RULE_BYTES MAX_WORD
        second readings SEED COUNT MAX_BYTES
        second merges SEED COUNT
        second answers < CASES
@@ -34,21 +31,12 @@ fn main() -> io::Result<ExitCode> {
 fn run_command(arguments: &[&str]) -> Option<io::Result<ExitCode>> {
     let done = match *arguments {
         [] => {
-            run_job(job::output);
-            Ok(())
-        }
-        ["leftmost"] => {
-            run_job(job::leftmost_output);
+            run_job();
             Ok(())
         }
         ["cases", seed, count, rule_bytes, word_length] => {
             let (bytes, length) = (number(rule_bytes)?, number(word_length)?);
             let line = |random: &mut Random| cases::case_line(random, bytes, length);
-            print_lines(number(seed)?, number(count)?, line)
-        }
-        ["starts", seed, count, rule_bytes, word_length] => {
-            let (bytes, length) = (number(rule_bytes)?, number(word_length)?);
-            let line = |random: &mut Random| cases::start_line(random, bytes, length);
             print_lines(number(seed)?, number(count)?, line)
         }
         ["readings", seed, count, most_bytes] => {
@@ -74,10 +62,10 @@ fn number(argument: &str) -> Option<usize> {
 }
 
 /// Answers one job from standard input on standard output; nothing where a read fails.
-fn run_job(output: fn(&[u8]) -> String) {
+fn run_job() {
     if let Ok(job) = read_job() {
         // Where a write fails there is nobody to be told.
-        let _ = io::stdout().write_all(output(&job).as_bytes());
+        let _ = io::stdout().write_all(job::output(&job).as_bytes());
     }
 }
 

@@ -28,8 +28,6 @@ pub enum Reason {
     StarAfterStar = 21,
     /// Of two days that are merged, together.
     TooManyEvents = 22,
-    /// Of a list of starts.
-    ListTooShort = 23,
 }
 
 /// A reason with the place it names.

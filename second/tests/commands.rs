@@ -1,5 +1,4 @@
-//! The commands `cases`, `starts`, `readings` and `merges`: the form of their lines, and that a seed
-//! fixes them.
+//! The commands `cases`, `readings` and `merges`: the form of their lines, and that a seed fixes them.
 
 use std::process::{Command, Output};
 
@@ -203,90 +202,8 @@ fn merges_hold_two_days_and_both_together() {
     assert!(lines.iter().any(|line| line[..] == ["-", "-", "-"]));
 }
 
-/// The numbers of a list's items, in each of which a sign parts so many.
-fn items<const PARTS: usize>(list: &str, sign: char) -> Vec<[usize; PARTS]> {
-    let item = |item: &str| {
-        let numbers: Vec<usize> = item.split(sign).map(|part| part.parse().unwrap()).collect();
-        numbers.try_into().unwrap()
-    };
-    match list {
-        "-" => Vec::new(),
-        _ => list.split(';').map(item).collect(),
-    }
-}
-
-#[test]
-fn starts_hold_sentences_words_records_and_leftmost_spans() {
-    let lines = fields("starts 5 3000 30 8");
-    assert_eq!(lines.len(), 3000);
-    let (mut touching, mut apart, mut alone, mut none) = (0, 0, 0, 0);
-    for line in &lines {
-        let [text, word, records, listing] = &line[..] else {
-            panic!("{line:?}")
-        };
-        assert!(text.len() <= 30 && word.len() <= 8);
-        let rule = rule::read(text.as_bytes()).unwrap();
-        let n = word.len();
-        let mut table = vec![0; (rule.k() + 1) * (n + 1) * 4];
-        judge(text.as_bytes(), word.as_bytes(), u64::MAX, &mut table);
-        let records = items::<3>(records, ':');
-        assert_eq!(records.len(), n + 1);
-        for (i, record) in records.iter().enumerate() {
-            let row = table[4 * i];
-            let ends: Vec<usize> = (0..=n).filter(|end| row >> end & 1 == 1).collect();
-            let [first, last] = [ends.first(), ends.last()].map(|end| end.copied().unwrap_or(0));
-            assert_eq!(*record, [ends.len(), first, last]);
-        }
-        // From place 0 on, the first start whose longest span is not empty.
-        let (mut expected, mut place) = (Vec::new(), 0);
-        while let Some(start) = (place..=n).find(|&start| records[start][2] > start) {
-            place = records[start][2];
-            expected.push([start, place]);
-        }
-        let listing = items::<2>(listing, ',');
-        assert_eq!(listing, expected);
-        let follows = |by: fn(usize, usize) -> bool| {
-            usize::from(listing.windows(2).any(|pair| by(pair[0][1], pair[1][0])))
-        };
-        touching += follows(|end, begin| end == begin);
-        apart += follows(|end, begin| end < begin);
-        let is_alone = |(i, record): (usize, &[usize; 3])| *record == [1, i, i];
-        alone += usize::from(records.iter().enumerate().any(is_alone));
-        none += usize::from(records.contains(&[0; 3]));
-    }
-    assert!(touching > 200 && apart > 100, "{touching}, {apart}");
-    assert!(alone > 1_000 && none > 1_000, "{alone}, {none}");
-    assert!(lines
-        .iter()
-        .any(|line| line[1].is_empty() && line[3] == "-"));
-}
-
-#[test]
-fn starts_keep_to_the_largest_sizes() {
-    let lines = fields("starts 6 40 9999 9999");
-    assert!(lines
-        .iter()
-        .all(|line| line[0].len() <= 255 && line[1].len() <= 255));
-    assert!(lines.iter().any(|line| line[1].len() > 100));
-    let line = &fields("starts 6 1 0 0")[0];
-    assert_eq!((line[0].len(), line[1].len()), (1, 0));
-    // The rules and words are those of the command `cases`.
-    let [cases, starts] = ["cases 7 50 20 5", "starts 7 50 20 5"].map(fields);
-    for (case, start) in cases.iter().zip(&starts) {
-        assert_eq!(case[..2], start[..2]);
-    }
-}
-
 #[test]
 fn a_seed_fixes_the_lines() {
-    assert_eq!(
-        run("starts 1 50 20 5").stdout,
-        run("starts 1 50 20 5").stdout
-    );
-    assert_ne!(
-        run("starts 1 50 20 5").stdout,
-        run("starts 2 50 20 5").stdout
-    );
     assert_eq!(run("merges 1 50").stdout, run("merges 1 50").stdout);
     assert_ne!(run("merges 1 50").stdout, run("merges 2 50").stdout);
     assert_eq!(run("cases 1 50 20 5").stdout, run("cases 1 50 20 5").stdout);
@@ -307,11 +224,6 @@ fn wrong_arguments_are_told_the_usage() {
         "cases",
         "cases 1 2 3",
         "cases 1 2 3 x",
-        "starts",
-        "starts 1 2 3",
-        "starts 1 2 3 x",
-        "starts 1 2 3 4 5",
-        "leftmost 1",
         "readings 1 2",
         "merges",
         "merges 1",

@@ -1,21 +1,19 @@
--- The binary digits of a number: of joined, met and differing numbers, of powers of two, the lowest and the highest that is set.
--- Assumes nothing.
+-- The binary digits of a number: of joined, met and differing numbers, of powers of two, and the lowest one that is set. Assumes nothing.
 use mathlib.Core.Path.{◌≡◌, refl, sym, ap, ◌∙◌}
 use mathlib.Core.Bool.{Bool, true, false, ◌&&◌, ◌||◌, xor, false≢true}
 use mathlib.Core.Logic.{◌⊎◌, inl, inr, ⊎_elim}
 use Prim.Native.Nat.{ℕ, zero, suc, ◌+◌, ◌-◌, ◌*◌, ◌/◌, ◌%◌, ◌^◌, min, max, ◌≤◌, ◌<◌}
-use native.Mathlib.Nat.{le_trans, zero-max, zero-min, pow-suc, eq-zero-or-pos}
-use native.Mathlib.Nat.{div_self, div-eq_of_lt, le-div_iff_mul-le, mul-mod_left, zero-div, zero-mod}
+use native.Mathlib.Nat.{zero-max, zero-min, div_self, div-eq_of_lt, mul-mod_left, pow-suc, zero-div, zero-mod, eq-zero-or-pos}
 use native.Mathlib.Omega.{arith}
 use native.Mathlib.Numerals.{add-one, one-add}
 use lib.Arith.{digits_mod}
 use lib.Bits.{bit_or, or_shr, or_step, bit_and, and_shr, and_step, and_lt, bit_xor, xor_shr, xor_step, xor_lt, differ}
-use lib.Count.{count_leading_zeros, leading_top, count_trailing_zeros, trailing_of_zero, under}
+use lib.Count.{count_trailing_zeros, trailing_of_zero, under}
 use lib.Dec.{eqb, ltb, lit≤}
-use lib.Pow.{pow_pos, pow_mono, pow-lt, pow-add, shl-shr, shr-shr, shr_lt, high, ones_lt, ones_split}
+use lib.Pow.{pow_pos, pow-lt, pow-add, shl-shr, shr-shr, shr_lt, high, ones_lt, ones_split}
 use borrow.Author.Tests.{eq-eqb, ne_eqb, ltb-true, ltb-false, lt-ltb, le-ltb, eqb-true, eqb-false}
 use Rattle.bits.specs.Bit.{has_bit}
-use Rattle.bits.specs.Runs.{First, Last}
+use Rattle.bits.specs.Runs.{First}
 
 -- ---- two numbers: which is below, or whether they are the same
 
@@ -303,28 +301,3 @@ first_missing x y h k (inr p) =
 pub first_law : (x y : ℕ) → x < 2 ^ 64 → y < 2 ^ 64 → First x y (count_trailing_zeros 64 (bit_and x (bit_xor x y)))
 unfolding missing
 first_law x y h k = first_missing x y h k (eq-zero-or-pos (missing x y))
-
--- ---- the highest digit that is set
-
--- a number from 2 to the power j on and below twice that
-top_digit : (x j : ℕ) → 2 ^ j ≤ x → x < 2 ^ suc j → digit j x ≡ 1
-unfolding digit
-top_digit x j h k =
-    let l : 1 ≤ x / 2 ^ j = (le-div_iff_mul-le (pow_pos j)).1 (omega arith) in
-    let e : 1 + j ≡ suc j = omega arith in
-    let u : x / 2 ^ j < 2 ^ 1 = shr_lt 1 j (rw e k) in
-    omega arith
-
-above_top : (x j b : ℕ) → x < 2 ^ suc j → j < b → digit b x ≡ 0
-unfolding digit
-above_top x j b k l = ap (λ (n : ℕ). n % 2) (div-eq_of_lt (le_trans k (pow_mono l)))
-
-pub last_law : (x : ℕ) → 0 < x → x < 2 ^ 64 → Last x (63 - count_leading_zeros 64 x)
-last_law x p h =
-    let (j, e, l, k) = leading_top 64 x p h in
-    let r : 63 - count_leading_zeros 64 x ≡ j = omega arith in
-    rw r record {
-      within = omega arith;
-      there = has_digit j x ∙ eq-eqb (digit j x) 1 (top_digit x j l k);
-      above = λ b m. has_digit b x ∙ ap (λ (n : ℕ). eqb n 1) (above_top x j b k m);
-    }

@@ -44,7 +44,7 @@ indicator_le true true h = omega arith
 indicator_le true false h = absurd (false≢true (h refl))
 indicator_le false y h = omega arith
 
-pub tally_most : (k : ℕ) (f : ℕ → Bool) → tally_below k f ≤ k
+tally_most : (k : ℕ) (f : ℕ → Bool) → tally_below k f ≤ k
 unfolding tally_below
 tally_most zero f = omega arith
 tally_most (suc k) f = omega (arith, indicator_most (f 0), tally_most k (λ (r : ℕ). f (suc r)))

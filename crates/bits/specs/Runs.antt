@@ -57,9 +57,3 @@ pub record First (x y r : ℕ) : Type 0 where
   pub there : r < 64 → has_bit r x ≡ true
   pub fresh : r < 64 → has_bit r y ≡ false
   pub below : (b : ℕ) → b < r → has_bit b x ≡ true → has_bit b y ≡ true
-
--- r is the highest bit of x
-pub record Last (x r : ℕ) : Type 0 where
-  pub within : r < 64
-  pub there : has_bit r x ≡ true
-  pub above : (b : ℕ) → r < b → has_bit b x ≡ false

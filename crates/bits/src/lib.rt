@@ -1,7 +1,7 @@
 // Bits of 64-bit numbers, and of runs of them: bit p of a run is bit p % 64 of its number p / 64.
 ghost use Rattle.std.specs.Prelude.{◌≡◌, ◌++◌, ◌*◌, ◌/◌, ◌%◌, ◌^◌, ◌<◌, ◌≤◌, length, take, drop, replicate};
 ghost use Rattle.bits.specs.Bit.{has_bit, bit_at, ones_of};
-ghost use Rattle.bits.specs.Runs.{joined, Put, First, Last, Merged};
+ghost use Rattle.bits.specs.Runs.{joined, Put, First, Merged};
 
 // Whether bit b of x is set.
 fn has(x: u64, b: usize) -> bool
@@ -63,14 +63,6 @@ pub fn first(x: u64, y: u64) -> usize
     ensures { First x y result }
 {
     u64::trailing_zeros(x & (x ^ y)) as usize
-}
-
-// The highest bit of a number that is not 0.
-pub fn last(x: u64) -> usize
-    requires { 0 < x }
-    ensures { Last x result }
-{
-    63 - u64::leading_zeros(x) as usize
 }
 
 // The number of ones in the first n numbers; their bound keeps the sum far below 64 bits.

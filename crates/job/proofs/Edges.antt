@@ -25,10 +25,10 @@ use Rattle.matcher.specs.MatchComputed.{fit_answer, match_answer}
 use Rattle.judge.specs.JudgeComputed.{judge_answer}
 use Rattle.listing.specs.Lines.{span_lines}
 use Rattle.listing.specs.Marked.{ends, starts, listing}
-use Rattle.job.specs.JobComputed.{judged_job, result_by, job_text}
+use Rattle.job.specs.JobComputed.{job_result, job_text}
 
 -- 01, The program: "Whole case"
 whole_case : job_text (bytes "R\t!a\nE\t0\ta\n") ≡ bytes "H\t1\t2\t1\t2\t7\nS\t0\t0\nS\t1\t1\n"
-unfolding job_text result_by judged_job decimal_in listing span_lines ends starts span_bit judge_answer match_answer fit_answer day_answer day_events day_lines line_of
+unfolding job_text job_result decimal_in listing span_lines ends starts span_bit judge_answer match_answer fit_answer day_answer day_events day_lines line_of
     leading is_event rule_answer sentence_outcome tree_of parse leaf_at scan_from unordered_from double_from holds bit_of accepts full_count obeys block table found packed_run packed ones_of ones has_bit bit_at
 whole_case = refl

@@ -16,7 +16,8 @@ use Rattle.event.proofs.Tails.{tail, tail_is}
 use Rattle.event.proofs.Tests.{T_of, of_T, and_split}
 use Rattle.rule.specs.RuleComputed.{rule_answer}
 use Rattle.event.specs.Text.{not_newline}
-use Rattle.job.specs.JobComputed.{rule_length, is_job, rule_of, day_of, unjudged, after_rule, judged_job}
+use Rattle.job.specs.JobAnswer.{refusal}
+use Rattle.job.specs.JobComputed.{rule_length, is_job, rule_of, day_of, after_rule, job_result, written, job_answer}
 
 -- where the first line ends; the length where it is not `R`, tab, bytes up to a newline
 abbrev pub line_end : List ℕ → ℕ
@@ -110,12 +111,12 @@ module _ (s : List ℕ) where
   pub within : (r : ℕ) → r ≡ line_end s → (r ≡ length s → ⊥) → (2 ≤ r) × (r < length s)
   within r e f = let j = is_job_lem r e f in (omega (arith, ends_at r e j), ends_inside r e j)
 
--- ---- how it is judged
+-- ---- the answer
 module _ (s old : List ℕ) where
-  pub line_stop : is_job s ≡ false → unjudged 16 0 old ≡ judged_job s old
-  unfolding judged_job
+  pub line_stop : is_job s ≡ false → refusal 16 0 old ≡ job_answer s old
+  unfolding job_answer job_result
   line_stop e = simp e
 
-  pub line_pass : is_job s ≡ true → after_rule (rule_of s) (day_of s) old (rule_answer (rule_of s)) ≡ judged_job s old
-  unfolding judged_job
+  pub line_pass : is_job s ≡ true → written (after_rule (rule_of s) (day_of s) (rule_answer (rule_of s))) old ≡ job_answer s old
+  unfolding job_answer job_result
   line_pass e = simp e

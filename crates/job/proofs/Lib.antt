@@ -4,8 +4,7 @@ mod FirstLine
 mod Parting
 mod Days
 pub mod Listed
-pub mod Rows
-pub mod Texts
+mod Rows
 pub mod Answered
 pub mod Determined
 pub mod Results

@@ -2,14 +2,15 @@
 use Prim.Native.Nat.{ℕ, zero, suc, ◌+◌, ◌*◌, ◌≤◌}
 use native.Mathlib.Omega.{arith}
 use native.Mathlib.Nat.{mul-le-mul}
-use mathlib.Core.Path.{◌≡◌, refl, ap}
+use mathlib.Core.Path.{◌≡◌, refl, sym, ap, subst, ◌∙◌}
 use mathlib.Core.Bool.{Bool, true, false, cond}
 use mathlib.Core.List.{List, [], ◌∷◌, Memᴰ}
 use lib.Dec.{eqb}
-use lib.ListN.{length, take, length-append}
-use lib.Seq.{slice}
+use lib.ListN.{length, take, drop, length-append}
+use lib.Seq.{slice, take_at}
+use borrow.Author.Tests.{eq-eqb, ne_eqb}
 use Rattle.decimal.specs.Decimal.{decimal}
-use Rattle.decimal.proofs.NumeralLaws.{decimal_few, decimal_three}
+use Rattle.decimal.proofs.NumeralLaws.{decimal_few, decimal_three, decimal_length}
 use Rattle.event.specs.Event.{Word}
 use Rattle.regex.specs.Tree.{Tree, size, specials}
 use Rattle.regex.specs.Accept.{accepts}
@@ -21,20 +22,17 @@ use Rattle.work.specs.SpansComputed.{list_if, from_start, from_starts, obeying}
 use Rattle.work.specs.TableComputed.{found}
 use Rattle.work.proofs.Found.{found_listed}
 use Rattle.work.proofs.Listed.{listed}
-use Rattle.listing.proofs.WrittenLaws.{line_short}
 use Rattle.listing.specs.Lines.{fields, line, span_line, span_lines, head_line, refusal_line}
 use Rattle.job.specs.declared.Answer.{Answer}
 use Rattle.job.specs.JobAnswer.{JobAnswer, job_values}
-use Rattle.job.specs.JobComputed.{limit_of, job_answer, job_text}
+use Rattle.job.specs.JobComputed.{refused, limit_of, job_answer, job_result, job_text}
 use Rattle.rule.specs.RuleMeaning.{Passed}
 use Rattle.job.specs.JobMeaning.{BothPassed, JobRefused, no_rule_line, rule_refused, day_refused, JobMeaning, row_refused, short_buffer}
-use Rattle.job.specs.JobMeaning.{accepted, Writes}
-use Rattle.job.proofs.Answered.{listing_law, answer_means}
-use Rattle.job.proofs.Texts as texts
-use Rattle.job.proofs.Texts.{judged_short}
+use Rattle.job.specs.JobMeaning.{accepted, Writes, writes_list, writes_refusal}
+use Rattle.job.proofs.Answered.{answer_means, judged_short, at_refusal, at_text}
 use Rattle.job.specs.FirstBlock.{heading, text}
-use Rattle.job.proofs.Listed.{text_obeying}
-use Rattle.job.proofs.Rows.{limit_enough, Comes, at_row, at_judge, comes}
+use Rattle.job.proofs.Listed.{text_obeying, lists_text, one_text}
+use Rattle.job.proofs.Rows.{limit_enough, result_refused, refused_above, result_judged, Comes, at_row, at_judge, comes}
 
 -- ---- the numbers of a job
 -- those of the readers' rows are none of the judge's own, 7, 8, 9 and 10
@@ -88,7 +86,7 @@ line_two : (c x y : ℕ) → length (line c (x ∷ y ∷ [])) ≡ 4 + length (de
 line_two c x y = omega (arith, field_length x (y ∷ []), field_length y [])
 
 -- the lines of spans that end at 255 at most
-pub span_lines_most : (l : Spans) → ((p : ℕ × ℕ) → Memᴰ p l → (p.0 ≤ 255) × (p.1 ≤ 255)) → length (span_lines l) ≤ 10 * length l
+span_lines_most : (l : Spans) → ((p : ℕ × ℕ) → Memᴰ p l → (p.0 ≤ 255) × (p.1 ≤ 255)) → length (span_lines l) ≤ 10 * length l
 unfolding span_lines
 span_lines_most [] h = omega arith
 span_lines_most (p ∷ l) h =
@@ -142,45 +140,77 @@ judged_most {t = t} {w = w} j =
     omega arith
 
 -- ---- the program
+pub refusal_most : (n p : ℕ) → length (refusal_line n p) ≤ 44
+refusal_most n p = omega (arith, line_two 88 n p, decimal_length n, decimal_length p)
+
+text_refused : (s : List ℕ) {n p : ℕ} → job_result s ≡ refused n p → (n ≡ 0 → ⊥) → job_text s ≡ refusal_line n p
+unfolding job_text
+text_refused s {n} e h = rw e (simp (ne_eqb n 0 h))
+
+text_judged : {s : List ℕ} {t : Tree} {w : Word} → BothPassed s t w → job_text s ≡ text w t
+unfolding job_text
+text_judged j = rw (result_judged j) refl
+
 -- the program's text is what it is to write, and nothing else is
 pub text_writes : (s : List ℕ) → Writes s (job_text s)
-unfolding job_text
-text_writes s = texts.output_writes listing_law s
+text_writes s = go (comes s)
+  where
+    go : Comes s → Writes s (job_text s)
+    go (at_row r) = subst (Writes s) (sym (text_refused s (result_refused r) (refused_above r))) (writes_refusal r)
+    go (at_judge {t = t} {w = w} j) = subst (Writes s) (sym (text_judged j)) (writes_list j (lists_text w t (judged_short j)))
 
 pub writes_is : {s x : List ℕ} → Writes s x → x ≡ job_text s
-unfolding job_text
-writes_is {s} w = texts.writes_one listing_law s w
+writes_is (writes_list {t = t} {w = w} j l) = one_text w t (judged_short j) l ∙ sym (text_judged j)
+writes_is {s} (writes_refusal r) = sym (text_refused s (result_refused r) (refused_above r))
 
 -- no text of the program is longer
 pub text_most : (s : List ℕ) → length (job_text s) ≤ 328985
-unfolding job_text
 text_most s = most (comes s)
   where
+    short : {n p : ℕ} → job_result s ≡ refused n p → (n ≡ 0 → ⊥) → length (job_text s) ≤ 328985
+    short {n} {p} e h = let f = ap length (text_refused s e h) in omega (arith, refusal_most n p)
+
     most : Comes s → length (job_text s) ≤ 328985
-    most (at_row {n = n} {p = p} r) = let f = ap length (texts.output_refused listing_law s r) in omega (arith, line_short 88 n p)
-    most (at_judge j) = let f = ap length (texts.output_judged listing_law s j) in omega (arith, judged_most j)
+    most (at_row r) = short (result_refused r) (refused_above r)
+    most (at_judge j) = let f = ap length (text_judged j) in omega (arith, judged_most j)
 
 -- what the program writes is what the call left in its buffer, or the line of the refusal
 module _ (s old : List ℕ) (room : 328985 ≤ length old) where
-  fits : (t : Tree) (w : Word) → BothPassed s t w → length (text w t) ≤ length old
-  fits t w j = omega (arith, judged_most j)
+  abbrev answered : JobAnswer → List ℕ
+  answered a = cond (eqb a.number 0) (take a.n a.out) (refusal_line a.number a.place)
+
+  stopped : {n p : ℕ} → job_result s ≡ refused n p → (n ≡ 0 → ⊥) → job_text s ≡ answered (job_answer s old)
+  stopped {n} e h = text_refused s e h ∙ rw (← at_refusal s old e h) (simp (ne_eqb n 0 h))
+
+  told : Comes s → job_text s ≡ answered (job_answer s old)
+  told (at_row r) = stopped (result_refused r) (refused_above r)
+  told (at_judge {t = t} {w = w} j) =
+      let l : length (text w t) ≤ length old = omega (arith, judged_most j) in
+      text_judged j ∙ rw (← at_text s old j l) (sym (take_at (text w t) (drop (length (text w t)) old) (length (text w t)) refl))
 
   pub call_text : job_text s
       ≡ cond (eqb (job_answer s old).number 0) (take (job_answer s old).n (job_answer s old).out)
       (refusal_line (job_answer s old).number (job_answer s old).place)
-  unfolding job_text job_answer
-  call_text = texts.call_output listing_law s old fits
+  call_text = told (comes s)
 
-  -- the same of an answer of the code: where it accepts, the front of the buffer is the text
-  module _ (a : Answer) (b : List ℕ) (e : job_values a b ≡ job_answer s old) where
-    pub text_listed : a.number ≡ 0 → take a.n b ≡ job_text s
-    unfolding job_text job_answer
-    text_listed z = texts.output_listed listing_law s old fits a b e z
+-- the text stands in the buffer
+text_inside : {s old : List ℕ} {a : JobAnswer} → JobMeaning s old a → a.n ≤ length a.out
+text_inside (row_refused r) = omega arith
+text_inside (short_buffer j l h) = omega arith
+text_inside {old = old} (accepted {text = x} j l h) = omega (arith, length-append x (drop (length x) old))
 
-    pub text_stopped : (a.number ≡ 0 → ⊥) → refusal_line a.number a.place ≡ job_text s
-    unfolding job_text job_answer
-    text_stopped z = texts.output_stopped listing_law s old fits a b e z
+-- the same of an answer of the code: where it accepts, the front of the buffer is the text
+module _ (s old : List ℕ) (room : 328985 ≤ length old) (a : Answer) (b : List ℕ) (e : job_values a b ≡ job_answer s old) where
+  call : job_text s ≡ cond (eqb a.number 0) (take a.n b) (refusal_line a.number a.place)
+  call =
+      subst (λ (x : JobAnswer). job_text s ≡ cond (eqb x.number 0) (take x.n x.out) (refusal_line x.number x.place)) (sym e)
+      (call_text s old room)
 
-    pub text_within : a.n ≤ length b
-    unfolding job_answer
-    text_within = texts.output_within listing_law s old fits a b e
+  pub text_listed : a.number ≡ 0 → take a.n b ≡ job_text s
+  text_listed z = sym (call ∙ simp (eq-eqb a.number 0 z))
+
+  pub text_stopped : (a.number ≡ 0 → ⊥) → refusal_line a.number a.place ≡ job_text s
+  text_stopped z = sym (call ∙ simp (ne_eqb a.number 0 z))
+
+  pub text_within : a.n ≤ length b
+  text_within = text_inside (subst (JobMeaning s old) (sym e) (answer_means s old))

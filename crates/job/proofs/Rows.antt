@@ -1,4 +1,4 @@
--- How a job is judged, row by row, by what its texts mean. Assumes nothing.
+-- What a job comes to, row by row, by what its texts mean. Assumes nothing.
 use Prim.Native.Nat.{ℕ, ◌+◌, ◌≤◌}
 use native.Mathlib.Omega.{arith}
 use mathlib.Core.Path.{◌≡◌, refl, sym, ap, ap₂, subst, ◌∙◌}
@@ -26,6 +26,7 @@ use Rattle.day.proofs.Answered as day-answered
 use Rattle.day.proofs.Rows as day-rows
 use Rattle.work.specs.Count.{full_count}
 use Rattle.work.specs.Table.{need_of}
+use Rattle.work.specs.TableComputed.{found, block}
 use Rattle.work.proofs.WorkBound.{full_bound}
 use Rattle.matcher.specs.MatchComputed.{acceptance}
 use Rattle.matcher.specs.MatchMeaning.{LegalWord}
@@ -33,9 +34,11 @@ use Rattle.matcher.proofs.Tested.{need_most, at_acceptance}
 use Rattle.judge.specs.JudgeAnswer.{JudgeAnswer}
 use Rattle.judge.specs.JudgeComputed.{judge_answer}
 use Rattle.judge.proofs.Determined.{to_limit}
-use Rattle.job.specs.JobComputed.{JudgedJob, unjudged, limit_of, after_judge, after_day, after_rule, is_job, rule_of, day_of, judged_job}
+use Rattle.job.specs.JobComputed.{refused, listed, limit_of, after_judge, after_day, after_rule, is_job, rule_of, day_of, job_result}
 use Rattle.job.specs.JobMeaning.{Parted, BothPassed, JobRefused, no_rule_line, rule_refused, day_refused}
 use Rattle.job.proofs.Days.{legal_word}
+use Rattle.job.specs.FirstBlock.{heading}
+use Rattle.job.proofs.Listed.{first_block}
 use Rattle.job.proofs.Parting.{parted_job, parted_is_job, parted_rule, parted_day}
 
 -- ---- what the rows come to
@@ -46,32 +49,30 @@ none_parted s h = either (is_job s) refl
     either false e = e
     either true e = absurd (h (rule_of s) (day_of s) (parted_job s e))
 
-judged_none : {s : List ℕ} (old : List ℕ) → ((rule file : List ℕ) → Parted s rule file → ⊥) → judged_job s old ≡ unjudged 16 0 old
-unfolding judged_job
-judged_none {s} old h = simp (none_parted s h)
+result_none : {s : List ℕ} → ((rule file : List ℕ) → Parted s rule file → ⊥) → job_result s ≡ refused 16 0
+unfolding job_result
+result_none {s} h = simp (none_parted s h)
 
-parted_judged : {s rule file : List ℕ} (old : List ℕ) → Parted s rule file → judged_job s old ≡ after_rule rule file old (rule_answer rule)
-unfolding judged_job
-parted_judged old p = rw (parted_is_job p) (ap₂ (λ (x y : List ℕ). after_rule x y old (rule_answer x)) (parted_rule p) (parted_day p))
+parted_result : {s rule file : List ℕ} → Parted s rule file → job_result s ≡ after_rule rule file (rule_answer rule)
+unfolding job_result
+parted_result p = rw (parted_is_job p) (ap₂ (λ (x y : List ℕ). after_rule x y (rule_answer x)) (parted_rule p) (parted_day p))
 
-judged_rule : {s rule file : List ℕ} {n p : ℕ} (old : List ℕ) → Parted s rule file → RuleMeaning rule (reader.refusal n p)
-    → judged_job s old ≡ unjudged n p old
-judged_rule {rule = rule} {file = file} {n = n} {p = p} old d m =
-    parted_judged old d ∙ ap (after_rule rule file old) (sym (rule-answered.answer_is m)) ∙ simp (ne_eqb n 0 (refused_number m))
+result_rule : {s rule file : List ℕ} {n p : ℕ} → Parted s rule file → RuleMeaning rule (reader.refusal n p) → job_result s ≡ refused n p
+result_rule {rule = rule} {file = file} {n = n} {p = p} d m =
+    parted_result d ∙ ap (after_rule rule file) (sym (rule-answered.answer_is m)) ∙ simp (ne_eqb n 0 (refused_number m))
 
 -- the rule passes
-rule_passed : {s rule file : List ℕ} {t : Tree} (old : List ℕ) → Parted s rule file → Passed rule t
-    → judged_job s old ≡ after_day rule (size t) (specials t) old (day_answer file (replicate 255 0) (replicate 255 0))
-rule_passed {rule = rule} {file = file} old d p =
-    parted_judged old d ∙ ap (after_rule rule file old) (sym (rule-answered.answer_is (rule-meaning.accepted p)))
+rule_passed : {s rule file : List ℕ} {t : Tree} → Parted s rule file → Passed rule t
+    → job_result s ≡ after_day rule (size t) (specials t) (day_answer file (replicate 255 0) (replicate 255 0))
+rule_passed {rule = rule} {file = file} d p = parted_result d ∙ ap (after_rule rule file) (sym (rule-answered.answer_is (rule-meaning.accepted p)))
 
 zeros_long : (n : ℕ) → n ≤ 255 → n ≤ length {A = ℕ} (replicate 255 0)
 zeros_long n h = omega (arith, length-replicate {A = ℕ} 255 0)
 
-judged_day : {s rule file : List ℕ} {t : Tree} {n p : ℕ} (old : List ℕ) → Parted s rule file → Passed rule t → DayRefused file n p
-    → judged_job s old ≡ unjudged n p old
-judged_day {rule = rule} {file = file} {t = t} {n = n} {p = p} old d r m =
-    rule_passed old d r ∙ ap (after_day rule (size t) (specials t) old) (sym (day-answered.answer_is (day-meaning.file_refused m)))
+result_day : {s rule file : List ℕ} {t : Tree} {n p : ℕ} → Parted s rule file → Passed rule t → DayRefused file n p
+    → job_result s ≡ refused n p
+result_day {rule = rule} {file = file} {t = t} {n = n} {p = p} d r m =
+    rule_passed d r ∙ ap (after_day rule (size t) (specials t)) (sym (day-answered.answer_is (day-meaning.file_refused m)))
     ∙ simp (ne_eqb n 0 (day-rows.refused_number m))
 
 -- ---- the judge
@@ -79,40 +80,45 @@ judged_day {rule = rule} {file = file} {t = t} {n = n} {p = p} old d r m =
 pub limit_enough : (w : Word) (t : Tree) → full_count w t ≤ limit_of (size t) (length w)
 limit_enough w t = omega (arith, full_bound w t)
 
--- the judge accepts every job that comes to it, in a table that is long enough
-judge_accepts : {rule : List ℕ} {t : Tree} {w : Word} (old : List ℕ) → Passed rule t → LegalWord w → 8192 ≤ length old
-    → judge_answer rule w (limit_of (size t) (length w)) old ≡ acceptance t w old
-judge_accepts {rule} {t} {w} old p l z =
+-- the judge accepts every job that comes to it
+pub judge_accepts : {rule : List ℕ} {t : Tree} {w : Word} → Passed rule t → LegalWord w
+    → judge_answer rule w (limit_of (size t) (length w)) (replicate 8192 0) ≡ acceptance t w (replicate 8192 0)
+judge_accepts {rule} {t} {w} p l =
+    let z = length-replicate {A = ℕ} 8192 0 in
     let m = need_most (specials t) (length w) p.special l.fits in
-    let room : need_of (specials t) (length w) ≤ length old = omega arith in
-    sym (to_limit rule w (limit_of (size t) (length w)) old t p l room) ∙ at_acceptance t w (limit_of (size t) (length w)) old (limit_enough w t)
+    let room : need_of (specials t) (length w) ≤ length {A = ℕ} (replicate 8192 0) = omega arith in
+    sym (to_limit rule w (limit_of (size t) (length w)) (replicate 8192 0) t p l room)
+    ∙ at_acceptance t w (limit_of (size t) (length w)) (replicate 8192 0) (limit_enough w t)
 
--- how a job of this word and rule is judged
-abbrev pub judged_as : Word → Tree → List ℕ → JudgedJob
-judged_as w t old = after_judge (acceptance t w old) (length w) (size t) (specials t)
+-- what is left of the judge's answer: found, count and the text
+after_acceptance : (w : Word) (t : Tree) (old : List ℕ)
+    → after_judge (acceptance t w old) (length w) (size t) (specials t) ≡ listed (heading w t) (block w t)
+after_acceptance w t old = ap (listed (heading w t)) (first_block w t (drop (need_of (specials t) (length w)) old))
 
 -- the judge's row, for a day that passes
-day_passed : {rule file : List ℕ} {t : Tree} {l : List DayEvent} (old : List ℕ) → Passed rule t → Whole file l → 8192 ≤ length old
-    → after_day rule (size t) (specials t) old (day_answer file (replicate 255 0) (replicate 255 0)) ≡ judged_as (map letter_of l) t old
-day_passed {rule} {file} {t} {l} old p h z =
+day_passed : {rule file : List ℕ} {t : Tree} {l : List DayEvent} → Passed rule t → Whole file l
+    → after_day rule (size t) (specials t) (day_answer file (replicate 255 0) (replicate 255 0))
+    ≡ listed (heading (map letter_of l) t) (block (map letter_of l) t)
+day_passed {rule} {file} {t} {l} p h =
     let w = map letter_of l in
     let n = length-map l letter_of in
     let a = day-answered.answer_is (day-meaning.accepted h (zeros_long (length l) h.few) (zeros_long (length l) h.few)) in
     let e : take (length l) (w ++ drop (length l) (replicate 255 0)) ≡ w = take_at w (drop (length l) (replicate 255 0)) (length l) n in
-    ap (after_day rule (size t) (specials t) old) (sym a)
-    ∙ ap₂ (λ (x : List ℕ) (k : ℕ). after_judge (judge_answer rule x (limit_of (size t) k) old) k (size t) (specials t)) e (sym n)
-    ∙ ap (λ (j : JudgeAnswer). after_judge j (length w) (size t) (specials t)) (judge_accepts old p (legal_word h) z)
+    ap (after_day rule (size t) (specials t)) (sym a)
+    ∙ ap₂ (λ (x : List ℕ) (k : ℕ). after_judge (judge_answer rule x (limit_of (size t) k) (replicate 8192 0)) k (size t) (specials t)) e (sym n)
+    ∙ ap (λ (j : JudgeAnswer). after_judge j (length w) (size t) (specials t)) (judge_accepts p (legal_word h))
+    ∙ after_acceptance w t (replicate 8192 0)
 
-pub judged_passed : {s : List ℕ} {t : Tree} {w : Word} (old : List ℕ) → BothPassed s t w → 8192 ≤ length old
-    → judged_job s old ≡ judged_as w t old
-judged_passed {t = t} old j z =
-    rule_passed old j.parted j.passed ∙ day_passed old j.passed j.whole z ∙ ap (λ (w : Word). judged_as w t old) (sym j.word)
+pub result_judged : {s : List ℕ} {t : Tree} {w : Word} → BothPassed s t w → job_result s ≡ listed (heading w t) (block w t)
+result_judged {t = t} j =
+    rule_passed j.parted j.passed ∙ day_passed j.passed j.whole
+    ∙ ap (λ (w : Word). listed (heading w t) (block w t)) (sym j.word)
 
 -- ---- one of the rows refuses a job, or its day is judged
-pub judged_refused : {s : List ℕ} {n p : ℕ} (old : List ℕ) → JobRefused s n p → judged_job s old ≡ unjudged n p old
-judged_refused old (no_rule_line h) = judged_none old h
-judged_refused old (rule_refused d m) = judged_rule old d m
-judged_refused old (day_refused d r m) = judged_day old d r m
+pub result_refused : {s : List ℕ} {n p : ℕ} → JobRefused s n p → job_result s ≡ refused n p
+result_refused (no_rule_line h) = result_none h
+result_refused (rule_refused d m) = result_rule d m
+result_refused (day_refused d r m) = result_day d r m
 
 pub refused_above : {s : List ℕ} {n p : ℕ} → JobRefused s n p → n ≡ 0 → ⊥
 refused_above (no_rule_line h) e = omega arith

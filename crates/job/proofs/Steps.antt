@@ -1,12 +1,12 @@
--- What the outcome of each row comes to where a job is judged. Assumes nothing.
-use Prim.Native.Nat.{ℕ, ◌≤◌}
-use mathlib.Core.Path.{◌≡◌, sym, ap, ap₂, ◌∙◌}
+-- What the outcome of each row comes to in the job's answer. Assumes nothing.
+use Prim.Native.Nat.{ℕ, ◌≤◌, ◌<◌}
+use mathlib.Core.Path.{◌≡◌, ap, ap₂, ◌∙◌}
 use mathlib.Core.List.{List, [], ◌∷◌}
 use lib.ListN.{length, take, replicate}
 use lib.Seq.{length-take-le}
 use types.Run.{OneOf, miss}
 use denote.Enum.Declared.{tag_of}
-use borrow.Author.Tests.{ne_eqb}
+use borrow.Author.Tests.{eqb-false, ne_eqb, lt-ltb, le-ltb}
 use Rattle.regex.specs.declared.Node.{Node}
 use Rattle.rule.specs.RuleAnswer as rule
 use Rattle.rule.specs.RuleAnswer.{RuleAnswer, rule_values}
@@ -22,9 +22,24 @@ use Rattle.day.specs.declared.Outcome as day-type
 use Rattle.day.specs.contracts.Outcome as day-declared
 use Rattle.day.proofs.Rows as day-rows
 use Rattle.day.specs.declared.Outcome.TheVariants as day-outcome
+use Rattle.matcher.specs.MatchAnswer as matcher
+use Rattle.matcher.proofs.Joined as match-rows
+use Rattle.judge.specs.JudgeAnswer as judge
+use Rattle.judge.specs.JudgeAnswer.{JudgeAnswer, judge_values}
 use Rattle.judge.specs.JudgeComputed.{judge_answer}
+use Rattle.judge.specs.declared.Outcome as judge-type
+use Rattle.judge.specs.contracts.Outcome as judge-declared
+use Rattle.judge.specs.declared.Outcome.TheVariants as judge-outcome
+use Rattle.listing.specs.declared.Heading.{Heading}
+use Rattle.listing.specs.Marked.{listing}
 use Rattle.verdict.specs.declared.Verdict.{Verdict}
-use Rattle.job.specs.JobComputed.{unjudged, limit_of, after_judge, after_day, after_rule}
+use Rattle.work.specs.Table.{block_length}
+use Rattle.job.specs.JobAnswer.{refusal, acceptance}
+use Rattle.job.specs.JobComputed.{JobResult, refused, listed, limit_of, after_judge, after_day, after_rule, written}
+
+-- a refusal is no text
+pub refused_written : (r : JobResult) (n p : ℕ) (old : List ℕ) → r ≡ refused n p → (n ≡ 0 → ⊥) → refusal n p old ≡ written r old
+refused_written r n p old e h = rw e (simp (ne_eqb n 0 h))
 
 -- ---- the rule text's row
 rule_number : (o : rule-type.Outcome) → OneOf (1 ∷ []) (tag_of rule-declared.the_type o) → (rule.outcome_verdict o).number ≡ 0 → ⊥
@@ -34,17 +49,19 @@ rule_number (rule-outcome.Refused r) h = (rule-rows.in_row r).number
 -- the row refuses
 pub rule_stop : (s file old : List ℕ) (o : rule-type.Outcome) (ns : List Node) (v : Verdict) → rule_values o ns ≡ rule_answer s
     → OneOf (1 ∷ []) (tag_of rule-declared.the_type o) → v ≡ rule.outcome_verdict o
-    → unjudged v.number v.place old ≡ after_rule s file old (rule_answer s)
+    → refusal v.number v.place old ≡ written (after_rule s file (rule_answer s)) old
 rule_stop s file old o ns v e t w =
     let a : v.number ≡ (rule_answer s).number = ap (λ (x : Verdict). x.number) w ∙ ap (λ (x : RuleAnswer). x.number) e in
     let b : v.place ≡ (rule_answer s).place = ap (λ (x : Verdict). x.place) w ∙ ap (λ (x : RuleAnswer). x.place) e in
     let h : (rule_answer s).number ≡ 0 → ⊥ = λ z. rule_number o t (ap (λ (x : RuleAnswer). x.number) e ∙ z) in
-    ap₂ (λ (n p : ℕ). unjudged n p old) a b ∙ sym (simp (ne_eqb (rule_answer s).number 0 h))
+    ap₂ (λ (n p : ℕ). refusal n p old) a b
+    ∙ refused_written (after_rule s file (rule_answer s)) (rule_answer s).number (rule_answer s).place old
+    (simp (ne_eqb (rule_answer s).number 0 h)) h
 
 -- the row lets the rule pass
-pub rule_pass : (s file old : List ℕ) (m k : ℕ) (ns : List Node) → rule.values 0 0 m k ns ≡ rule_answer s
-    → after_day s m k old (day_answer file (replicate 255 0) (replicate 255 0)) ≡ after_rule s file old (rule_answer s)
-rule_pass s file old m k ns e = ap (after_rule s file old) e
+pub rule_pass : (s file : List ℕ) (m k : ℕ) (ns : List Node) → rule.values 0 0 m k ns ≡ rule_answer s
+    → after_day s m k (day_answer file (replicate 255 0) (replicate 255 0)) ≡ after_rule s file (rule_answer s)
+rule_pass s file m k ns e = ap (after_rule s file) e
 
 -- ---- the day file's row
 day_number : (o : day-type.Outcome) → OneOf (1 ∷ []) (tag_of day-declared.the_type o) → (day.outcome_verdict o).number ≡ 0 → ⊥
@@ -54,16 +71,46 @@ day_number (day-outcome.Refused r) h = (day-rows.in_row r).number
 -- the row refuses
 pub day_stop : (s : List ℕ) (m k : ℕ) (old : List ℕ) (d : DayAnswer) (o : day-type.Outcome) (ls ss : List ℕ) (v : Verdict)
     → day_values o ls ss ≡ d → OneOf (1 ∷ []) (tag_of day-declared.the_type o) → v ≡ day.outcome_verdict o
-    → unjudged v.number v.place old ≡ after_day s m k old d
+    → refusal v.number v.place old ≡ written (after_day s m k d) old
 day_stop s m k old d o ls ss v e t w =
     let a : v.number ≡ d.number = ap (λ (x : Verdict). x.number) w ∙ ap (λ (x : DayAnswer). x.number) e in
     let b : v.place ≡ d.place = ap (λ (x : Verdict). x.place) w ∙ ap (λ (x : DayAnswer). x.place) e in
     let h : d.number ≡ 0 → ⊥ = λ z. day_number o t (ap (λ (x : DayAnswer). x.number) e ∙ z) in
-    ap₂ (λ (n p : ℕ). unjudged n p old) a b ∙ sym (simp (ne_eqb d.number 0 h))
+    ap₂ (λ (n p : ℕ). refusal n p old) a b ∙ refused_written (after_day s m k d) d.number d.place old (simp (ne_eqb d.number 0 h)) h
 
 -- the row lets the day pass
-pub day_pass : (s : List ℕ) (m k : ℕ) (old : List ℕ) (d : DayAnswer) (n : ℕ) (ls ss : List ℕ) → day.values 0 0 n ls ss ≡ d → n ≤ length ls
-    → after_judge (judge_answer s (take n ls) (limit_of m (length (take n ls))) old) (length (take n ls)) m k ≡ after_day s m k old d
-day_pass s m k old d n ls ss e h =
+pub day_pass : (s : List ℕ) (m k : ℕ) (d : DayAnswer) (n : ℕ) (ls ss : List ℕ) → day.values 0 0 n ls ss ≡ d → n ≤ length ls
+    → after_judge (judge_answer s (take n ls) (limit_of m (length (take n ls))) (replicate 8192 0)) (length (take n ls)) m k ≡ after_day s m k d
+day_pass s m k d n ls ss e h =
     let l : length (take n ls) ≡ n = length-take-le n ls h in
-    ap (λ (x : ℕ). after_judge (judge_answer s (take n ls) (limit_of m x) old) x m k) l ∙ ap (after_day s m k old) e
+    ap (λ (x : ℕ). after_judge (judge_answer s (take n ls) (limit_of m x) (replicate 8192 0)) x m k) l ∙ ap (after_day s m k) e
+
+-- ---- the judge's row
+judge_number : (o : judge-type.Outcome) → OneOf (1 ∷ 2 ∷ []) (tag_of judge-declared.the_type o) → (judge.outcome_verdict o).number ≡ 0 → ⊥
+judge_number (judge-outcome.Accepted f c) h = λ e. miss (1 ∷ 2 ∷ []) 0 tt h
+judge_number (judge-outcome.RuleRefused r) h = (rule-rows.in_row r).number
+judge_number (judge-outcome.Refused r) h = eqb-false _ _ (match-rows.refusal_number_lem r)
+
+-- the row refuses
+pub judge_stop : (n m k : ℕ) (old : List ℕ) (j : JudgeAnswer) (o : judge-type.Outcome) (b : List ℕ) (v : Verdict) → judge_values o b ≡ j
+    → OneOf (1 ∷ 2 ∷ []) (tag_of judge-declared.the_type o) → v ≡ judge.outcome_verdict o
+    → refusal v.number v.place old ≡ written (after_judge j n m k) old
+judge_stop n m k old j o b v e t w =
+    let a : v.number ≡ j.number = ap (λ (x : Verdict). x.number) w ∙ ap (λ (x : JudgeAnswer). x.number) e in
+    let p : v.place ≡ j.place = ap (λ (x : Verdict). x.place) w ∙ ap (λ (x : JudgeAnswer). x.place) e in
+    let h : j.number ≡ 0 → ⊥ = λ z. judge_number o t (ap (λ (x : JudgeAnswer). x.number) e ∙ z) in
+    ap₂ (λ (x y : ℕ). refusal x y old) a p ∙ refused_written (after_judge j n m k) j.number j.place old (simp (ne_eqb j.number 0 h)) h
+
+-- the row lets the job pass
+pub judge_pass : {first : ℕ} (n m k f c : ℕ) (b : List ℕ) (j : JudgeAnswer) → first ≡ block_length n → matcher.values 0 0 f c b ≡ j
+    → listed (record { n = n; m = m; k = k; found = f; count = c }) (take first b) ≡ after_judge j n m k
+judge_pass n m k f c b j l e = rw l (ap (λ (x : JudgeAnswer). after_judge x n m k) e)
+
+-- ---- the text
+-- the buffer is shorter
+pub text_stop : (h : Heading) (block old : List ℕ) → length old < length (listing h block) → refusal 15 0 old ≡ written (listed h block) old
+text_stop h block old l = simp (lt-ltb (length old) (length (listing h block)) l)
+
+pub text_pass : (h : Heading) (block old : List ℕ) → length (listing h block) ≤ length old
+    → acceptance h.found h.count (listing h block) old ≡ written (listed h block) old
+text_pass h block old l = simp (le-ltb (length old) (length (listing h block)) l)

@@ -1,5 +1,4 @@
--- How a job is judged, what it comes to, what the call that runs it answers and leaves in its buffer, and what the program writes, computed.
--- Assumes nothing.
+-- What a job comes to, what the call that runs it answers and leaves in its buffer, and what the program writes, computed. Assumes nothing.
 -- That `job_answer` is the one answer which has `JobMeaning` is `answer_means` in proofs/Answered and `answer_is` in proofs/Determined;
 -- `job_text` is tied to it by `call_text` in proofs/Results.
 use Rattle.std.specs.Prelude.{ℕ, suc, ◌+◌, ◌*◌, Bool, cond, ◌&&◌, List, [], eqb, ltb, length, get_or, take, drop, replicate}
@@ -16,7 +15,6 @@ use Rattle.listing.specs.declared.Heading.{Heading}
 use Rattle.listing.specs.Lines.{refusal_line}
 use Rattle.listing.specs.Marked.{listing}
 use Rattle.job.specs.JobAnswer.{JobAnswer, refusal, acceptance}
-use Rattle.job.specs.declared.Judged.{Judged}
 
 -- ---- the job's first line
 -- how many bytes stand between the first two and the newline
@@ -34,52 +32,6 @@ rule_of s = take (rule_length s) (drop 2 s)
 abbrev pub day_of : List ℕ → List ℕ
 day_of s = drop (suc (rule_length s)) (drop 2 s)
 
--- ---- how a job is judged
--- number, place, found and count; where its day is judged n, m and k, too; and the whole table
-pub record JudgedJob : Type 0 where
-  pub number : ℕ
-  pub place : ℕ
-  pub found : ℕ
-  pub count : ℕ
-  pub n : ℕ
-  pub m : ℕ
-  pub k : ℕ
-  pub table : List ℕ
-
--- a job that is refused before its day is judged; 01: "on refusal found and count are 0 unless said", ".. no lent buffer changes"
-abbrev pub unjudged : ℕ → ℕ → List ℕ → JudgedJob
-unjudged number place old = record { number = number; place = place; found = 0; count = 0; n = 0; m = 0; k = 0; table = old }
-
--- 01, The program: "lends the judge a limit of m × (n + 1) × (n + 2)"
-abbrev pub limit_of : ℕ → ℕ → ℕ
-limit_of m n = m * ((n + 1) * (n + 2))
-
--- the judge's answer for n events, and a rule of m nodes, k of them special
-abbrev pub after_judge : JudgeAnswer → ℕ → ℕ → ℕ → JudgedJob
-after_judge j n m k =
-    record { number = j.number; place = j.place; found = j.found; count = j.count; n = n; m = m; k = k; table = j.table }
-
--- the day's answer: its events go to the judge
-abbrev pub after_day : List ℕ → ℕ → ℕ → List ℕ → DayAnswer → JudgedJob
-after_day s m k old d =
-    cond (eqb d.number 0) (after_judge (judge_answer s (take d.n d.letters) (limit_of m d.n) old) d.n m k)
-    (unjudged d.number d.place old)
-
--- the rule's answer: the day goes to its reader, with buffers that are long enough for every day, 255 elements, all 0
-abbrev pub after_rule : List ℕ → List ℕ → List ℕ → RuleAnswer → JudgedJob
-after_rule s file old r =
-    cond (eqb r.number 0) (after_day s r.m r.k old (day_answer file (replicate 255 0) (replicate 255 0)))
-    (unjudged r.number r.place old)
-
--- 01: "A job passes the rows in the table's order."; of a job and the table at entry
-unfoldable pub judged_job : List ℕ → List ℕ → JudgedJob
-judged_job s old = cond (is_job s) (after_rule (rule_of s) (day_of s) old (rule_answer (rule_of s))) (unjudged 16 0 old)
-
--- the same of what the code answers, with the table at exit
-abbrev pub judged_values : Judged → List ℕ → JudgedJob
-judged_values j b =
-    record { number = j.number; place = j.place; found = j.found; count = j.count; n = j.n; m = j.m; k = j.k; table = b }
-
 -- ---- what a job comes to
 -- number, place, found, count, and the text where it is accepted
 pub record JobResult : Type 0 where
@@ -93,25 +45,36 @@ pub record JobResult : Type 0 where
 abbrev pub refused : ℕ → ℕ → JobResult
 refused number place = record { number = number; place = place; found = 0; count = 0; text = [] }
 
--- an accepted job, with its text
-abbrev pub listed_text : ℕ → ℕ → List ℕ → JobResult
-listed_text found count text = record { number = 0; place = 0; found = found; count = count; text = text }
-
--- a job whose day is judged in a table that is long enough for every job, 8,192 numbers, all 0; a function of that is its text
-unfoldable pub result_by : (JudgedJob → List ℕ) → List ℕ → JobResult
-result_by text s =
-    let j = judged_job s (replicate 8192 0) in
-    cond (eqb j.number 0) (listed_text j.found j.count (text j)) (refused j.number j.place)
+-- 01, The program: "lends the judge a limit of m × (n + 1) × (n + 2)"
+abbrev pub limit_of : ℕ → ℕ → ℕ
+limit_of m n = m * ((n + 1) * (n + 2))
 
 -- 01, The program: "Accepted: a line `H`, n, m, k, found, count; then for each span whose bit is 1 in the first block `S`, i, j"
-abbrev pub heading_of : JudgedJob → Heading
-heading_of j = record { n = j.n; m = j.m; k = j.k; found = j.found; count = j.count }
+abbrev pub listed : Heading → List ℕ → JobResult
+listed h block = record { number = 0; place = 0; found = h.found; count = h.count; text = listing h block }
 
-abbrev pub listing_of : JudgedJob → List ℕ
-listing_of j = listing (heading_of j) (take (block_length j.n) j.table)
+-- the judge's answer for n events: the first block is listed
+abbrev pub after_judge : JudgeAnswer → ℕ → ℕ → ℕ → JobResult
+after_judge j n m k =
+    cond (eqb j.number 0)
+    (listed (record { n = n; m = m; k = k; found = j.found; count = j.count }) (take (block_length n) j.table))
+    (refused j.number j.place)
 
-abbrev pub job_result : List ℕ → JobResult
-job_result s = result_by listing_of s
+-- the day's answer: its events go to the judge, with a table that is long enough for every job, 8,192 numbers, all 0
+abbrev pub after_day : List ℕ → ℕ → ℕ → DayAnswer → JobResult
+after_day s m k d =
+    cond (eqb d.number 0)
+    (after_judge (judge_answer s (take d.n d.letters) (limit_of m d.n) (replicate 8192 0)) d.n m k)
+    (refused d.number d.place)
+
+-- the rule's answer: the day goes to its reader, with buffers that are long enough for every day, 255 elements, all 0
+abbrev pub after_rule : List ℕ → List ℕ → RuleAnswer → JobResult
+after_rule s file r =
+    cond (eqb r.number 0) (after_day s r.m r.k (day_answer file (replicate 255 0) (replicate 255 0))) (refused r.number r.place)
+
+-- 01: "A job passes the rows in the table's order."
+unfoldable pub job_result : List ℕ → JobResult
+job_result s = cond (is_job s) (after_rule (rule_of s) (day_of s) (rule_answer (rule_of s))) (refused 16 0)
 
 -- ---- the call
 -- 01: ".. and gives 15, last, where its buffer is shorter."

@@ -50,24 +50,17 @@ pub data JobRefused (s : List ℕ) : ℕ → ℕ → Type 0 where
   -- 11 to 14: the day file's row, in which 15 does not come: no buffer is shorter than a day may be
   day_refused : {rule file : List ℕ} {t : Tree} {n p : ℕ} → Parted s rule file → Passed rule t → DayRefused file n p → JobRefused s n p
 
--- what holds of the job s and of the buffer at entry, and the whole answer, where L says which text lists a word and a rule, with which found and
--- count. No answer has 7, 8, 9 or 10: a job's limit is never spent, and its word and table fit.
-pub data TextMeaning (L : Word → Tree → ℕ → ℕ → List ℕ → Type 0) (s old : List ℕ) : JobAnswer → Type 0 where
-  row_refused : {n p : ℕ} → JobRefused s n p → TextMeaning L s old (refusal n p old)
+-- what holds of the job s and of the buffer at entry, and the whole answer. None has 7, 8, 9 or 10.
+pub data JobMeaning (s old : List ℕ) : JobAnswer → Type 0 where
+  row_refused : {n p : ℕ} → JobRefused s n p → JobMeaning s old (refusal n p old)
   -- 15, last: the buffer is shorter than the text
-  short_buffer : {t : Tree} {w : Word} {f c : ℕ} {text : List ℕ} → BothPassed s t w → L w t f c text → length old < length text
-      → TextMeaning L s old (refusal 15 0 old)
-  accepted : {t : Tree} {w : Word} {f c : ℕ} {text : List ℕ} → BothPassed s t w → L w t f c text → length text ≤ length old
-      → TextMeaning L s old (acceptance f c text old)
+  short_buffer : {t : Tree} {w : Word} {f c : ℕ} {text : List ℕ} → BothPassed s t w → Lists w t f c text → length old < length text
+      → JobMeaning s old (refusal 15 0 old)
+  accepted : {t : Tree} {w : Word} {f c : ℕ} {text : List ℕ} → BothPassed s t w → Lists w t f c text → length text ≤ length old
+      → JobMeaning s old (acceptance f c text old)
 
--- what a program writes for the job s: the text that lists, or "Refused: one line `X`, number, place."
-pub data TextWrites (L : Word → Tree → ℕ → ℕ → List ℕ → Type 0) (s : List ℕ) : List ℕ → Type 0 where
-  writes_list : {t : Tree} {w : Word} {f c : ℕ} {text : List ℕ} → BothPassed s t w → L w t f c text → TextWrites L s text
-  writes_refusal : {n p : ℕ} → JobRefused s n p → TextWrites L s (refusal_line n p)
-
--- both for 01's program, whose text lists every span that obeys. That `job_text` is the one text which is so written is `text_writes` and `writes_is` in proofs/Results.
-abbrev pub JobMeaning : List ℕ → List ℕ → JobAnswer → Type 0
-JobMeaning = TextMeaning Lists
-
-abbrev pub Writes : List ℕ → List ℕ → Type 0
-Writes = TextWrites Lists
+-- what the program writes for the job s: the listing, or "Refused: one line `X`, number, place."
+-- That `job_text` is the one text which is so written is `text_writes` and `writes_is` in proofs/Results.
+pub data Writes (s : List ℕ) : List ℕ → Type 0 where
+  writes_list : {t : Tree} {w : Word} {f c : ℕ} {text : List ℕ} → BothPassed s t w → Lists w t f c text → Writes s text
+  writes_refusal : {n p : ℕ} → JobRefused s n p → Writes s (refusal_line n p)

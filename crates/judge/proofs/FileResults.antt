@@ -33,7 +33,7 @@ use Rattle.judge.specs.JudgeComputed.{judge_answer}
 use Rattle.judge.specs.JudgeFileComputed.{last_line, last_tree, after_file, judge_file_answer}
 use Rattle.judge.specs.JudgeFileMeaning.{JudgeFileMeaning}
 use Rattle.judge.proofs.FileLines.{last_in, last_tree_lem, last_line_lem, Comes, refuses, passes, comes}
-use Rattle.judge.proofs.Determined as text-judged
+use Rattle.judge.proofs.Determined as text_judged
 use Rattle.judge.proofs.FileAnswered.{answer_means, to_match}
 
 -- ---- demand 3: "at most m × (n+1) × (n+2)", m of the last line
@@ -107,7 +107,7 @@ as_replaced file w limit old ls l p h =
       nodes = f.0;
       special = f.1;
     } in
-    sym (to_match file w limit old ls l p) ∙ text-judged.to_match l.text w limit old l.tree q
+    sym (to_match file w limit old ls l p) ∙ text_judged.to_match l.text w limit old l.tree q
   where
     begun : {u : List ℕ} {t : Tree} → Reads Alt 0 u t → is_start (get_or u 0 0) ≡ true
     begun {u} r = ap (λ (s : List ℕ). is_start (get_or s 0 0)) (sym (append-nil u)) ∙ begins r []

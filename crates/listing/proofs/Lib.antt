@@ -1,4 +1,5 @@
--- Laws of texts written into a buffer, of the lines of a block, and of the order in which the lines stand.
-pub mod WrittenLaws
+-- Laws of texts written into a buffer, of the lines of a block, of the next end of a row, and of the order in which the lines stand.
+mod WrittenLaws
 mod SpanLines
+mod RowLaws
 pub mod ListingLaws

@@ -11,12 +11,11 @@ use Rattle.bits.specs.Bit.{bit_at}
 use Rattle.bits.proofs.Digits.{below_or_not}
 use Rattle.work.specs.Spans.{Spans}
 use Rattle.work.specs.SpansComputed.{list_if}
-use Rattle.table.specs.Ends.{Next}
 use Rattle.table.specs.Layout.{block_at, row_bit}
 use Rattle.table.proofs.LayoutLaws.{row_span}
 use Rattle.listing.specs.declared.Heading.{Heading}
 use Rattle.listing.specs.Lines.{head_line, span_line, span_lines}
-use Rattle.listing.specs.Marked.{ends, starts, is_marked, listing, row_lines, block_lines}
+use Rattle.listing.specs.Marked.{ends, starts, is_marked, listing, row_lines, block_lines, Next}
 use Rattle.listing.proofs.WrittenLaws.{line_short}
 
 -- ---- a row

@@ -1,5 +1,5 @@
 -- The spans that a block is_marked, and the text that lists them. Assumes nothing.
-use Rattle.std.specs.Prelude.{ℕ, zero, suc, ◌-◌, Bool, List, [], ◌++◌}
+use Rattle.std.specs.Prelude.{ℕ, zero, suc, ◌-◌, ◌≤◌, ◌<◌, ◌≡◌, Bool, true, false, List, [], ◌++◌}
 use Rattle.bits.specs.Bit.{bit_at}
 use Rattle.work.specs.Spans.{Spans}
 use Rattle.work.specs.SpansComputed.{list_if}
@@ -39,3 +39,9 @@ row_lines f i n j = span_lines (ends f i (suc n - j) j)
 -- the lines of the spans whose starts are i to n
 abbrev pub block_lines : (ℕ → ℕ → Bool) → ℕ → ℕ → List ℕ
 block_lines f n i = span_lines (starts f (suc n - i) i)
+
+-- r is the first number from j to n that passes a test, or is beyond n where there is none
+pub record Next (f : ℕ → Bool) (j n r : ℕ) : Type 0 where
+  pub from : j ≤ r
+  pub there : r ≤ n → f r ≡ true
+  pub none : (k : ℕ) → j ≤ k → k < r → f k ≡ false

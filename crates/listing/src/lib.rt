@@ -1,5 +1,5 @@
 // The program's output: the listing of the spans that a block marks, and the line of a refusal.
-pub mod fields;
+mod fields;
 mod spans;
 
 ghost use Rattle.std.specs.Prelude.{◌≡◌, ◌++◌, ◌-◌, ◌≤◌, length, drop, replicate};

@@ -2,12 +2,28 @@
 ghost use Rattle.std.specs.Prelude.{◌≡◌, ◌+◌, ◌*◌, ◌≤◌, length};
 ghost use Rattle.bits.specs.Bit.{bit_at};
 ghost use Rattle.table.specs.Layout.{block_at, Lies};
-ghost use Rattle.listing.specs.Marked.{is_marked, row_lines, block_lines};
+ghost use Rattle.listing.specs.Marked.{is_marked, row_lines, block_lines, Next};
 ghost use Rattle.listing.specs.Written.{Written};
 
 use crate::fields::{field_length, put_line};
 use table::Block;
-use table::ends::next_end;
+
+// The first end from `from` to n whose bit is 1 in a row, or a number beyond n. A number of the row that has no such bit is passed at once.
+fn next_end(row: &[u64], from: usize, n: usize) -> usize
+    requires { (length row.now ≡ 4) × (from ≤ 256) × (n ≤ 255) }
+    ensures { Next (bit_at row.now) from n result }
+{
+    let mut j = from;
+    while j <= n {
+        let first = 64 * (j / 64);
+        let b = bits::first(row[j / 64], bits::one(j % 64) - 1);
+        if b < 64 {
+            return first + b;
+        }
+        j = first + 64;
+    }
+    j
+}
 
 // The length of the lines of a row.
 fn row_length(row: &[u64], i: usize, n: usize) -> usize

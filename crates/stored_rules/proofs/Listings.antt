@@ -15,7 +15,7 @@ use Rattle.work.specs.Spans.{Spans}
 use Rattle.listing.specs.Lines.{head_line, span_lines}
 use Rattle.job.specs.FirstBlock.{heading}
 use Rattle.job.specs.JobMeaning.{BothPassed, Lists, Writes, writes_list}
-use Rattle.job.proofs.Texts.{judged_short}
+use Rattle.job.proofs.Answered.{judged_short}
 use Rattle.job.proofs.Listed.{lists_text, text_obeying, same_spans, one_found, one_count}
 use Rattle.rewrite.specs.Rewritten.{rewritten}
 use Rattle.rewrite.specs.RewriteMeaning.{Rewritable}

@@ -50,27 +50,23 @@ block_span w t short i j h k =
     ap (bit_at (block w t)) p ∙ block_bit w t (position i j) (omega arith) ∙ ap₂ (obeys w t) a b
 
 module _ {w : Word} {u : Tree} {run : List ℕ} {first : ℕ} (short : length w ≤ 255) where
-  -- what is read of a row is exactly the spans, also below the start and past n
-  pub held_row : HoldsBlock w u run first → (i k : ℕ) → i ≤ length w → k < 256 → row_bit run (block_at first (length w)) i k ≡ obeys w u i k
-  unfolding span_bit row_bit
-  held_row h i k l m = same_test (bit_at run (64 * first + position i k)) (obeys w u i k) to from
+  pub held_span : HoldsBlock w u run first → (i j : ℕ) → i ≤ j → j ≤ length w → bit_at run (span_bit (block_at first (length w)) i j) ≡ obeys w u i j
+  unfolding span_bit
+  held_span h i j l k = same_test (bit_at run (64 * first + position i j)) (obeys w u i j) to from
     where
-      to : T (bit_at run (64 * first + position i k)) → T (obeys w u i k)
+      to : T (bit_at run (64 * first + position i j)) → T (obeys w u i j)
       to t =
-          here (h.others (position i k) (omega arith) (of_T (bit_at run (64 * first + position i k)) t))
+          here (h.others (position i j) (omega arith) (of_T (bit_at run (64 * first + position i j)) t))
         where
-          here : (i' : ℕ) × (k' : ℕ) × (position i k ≡ position i' k') × Obeys w u i' k' → T (obeys w u i k)
+          here : (i' : ℕ) × (j' : ℕ) × (position i j ≡ position i' j') × Obeys w u i' j' → T (obeys w u i j)
           here z =
               let y = z.3.inside in
               let a : z.0 ≡ i = omega arith in
-              let c : z.1 ≡ k = omega arith in
-              (obeys_eq w u i k).1 (subst (λ (x : ℕ). Obeys w u x k) a (subst (λ (x : ℕ). Obeys w u z.0 x) c z.3))
+              let c : z.1 ≡ j = omega arith in
+              (obeys_eq w u i j).1 (subst (λ (x : ℕ). Obeys w u x j) a (subst (λ (x : ℕ). Obeys w u z.0 x) c z.3))
 
-      from : T (obeys w u i k) → T (bit_at run (64 * first + position i k))
-      from t = T_of (bit_at run (64 * first + position i k)) (h.spans i k ((obeys_eq w u i k).0 t))
-
-  pub held_span : HoldsBlock w u run first → (i j : ℕ) → i ≤ j → j ≤ length w → bit_at run (span_bit (block_at first (length w)) i j) ≡ obeys w u i j
-  held_span h i j l k = sym (row_span run (block_at first (length w)) i j l k) ∙ held_row h i j (omega arith) (omega arith)
+      from : T (obeys w u i j) → T (bit_at run (64 * first + position i j))
+      from t = T_of (bit_at run (64 * first + position i j)) (h.spans i j ((obeys_eq w u i j).0 t))
 
   pub holds_block : ((i j : ℕ) → i ≤ j → j ≤ length w → bit_at run (span_bit (block_at first (length w)) i j) ≡ obeys w u i j)
       → ((q : ℕ) → InBlock (block_at first (length w)) q → bit_at run q ≡ true → SpanAt (block_at first (length w)) q) → HoldsBlock w u run first

@@ -2,4 +2,3 @@
 pub mod LayoutLaws
 -- Laws that the proofs of its functions cite.
 mod Rows
-mod EndLaws

@@ -1,3 +1,2 @@
--- Where the bits of spans stand, and what is found of a row of them.
+-- Where the bits of spans stand.
 pub mod Layout
-pub mod Ends

@@ -15,25 +15,18 @@ use Rattle.day.specs.DayAnswer.{DayAnswer}
 use Rattle.judge.proofs.Determined as judge
 use Rattle.judge.specs.JudgeAnswer.{JudgeAnswer}
 use Rattle.judge.proofs.FileAnswered as judge-file
-use Rattle.starts.proofs.Determined as starts
-use Rattle.starts.specs.StartsAnswer.{StartsAnswer}
-use Rattle.starts.specs.declared.Start.{Start}
 use Rattle.job.proofs.Determined as job
 use Rattle.job.specs.JobAnswer.{JobAnswer}
-use Rattle.job.specs.JobMeaning.{JobMeaning}
-use Rattle.leftmost_listing.specs.LeftmostMeaning.{LeftmostMeaning}
-use Rattle.leftmost_listing.proofs.Results as leftmost
 use Rattle.rewrite.proofs.Answered as rewrite
 use Rattle.rewrite.specs.RewriteAnswer.{RewriteAnswer}
 use Rattle.merge.proofs.Answered as merge
-use Rattle.wuzlevor.specs.ExportComputed.{read_rule, read_rule_file, read_day, judge_spans, judge_rule_file, judge_starts, tell_job, run_job, run_leftmost, rewrite_rule, merge_days}
+use Rattle.wuzlevor.specs.ExportComputed.{read_rule, read_rule_file, read_day, judge_spans, judge_rule_file, run_job, rewrite_rule, merge_days}
 use Rattle.wuzlevor.specs.Exported.{rule_told, RuleExport, rule_short, rule_is_told}
 use Rattle.wuzlevor.specs.Exported.{file_told, FileExport, file_short, file_is_told}
 use Rattle.wuzlevor.specs.Exported.{day_told, DayExport, day_short, day_is_told}
 use Rattle.wuzlevor.specs.Exported.{judge_told, JudgeExport, judge_short, judge_is_told}
 use Rattle.wuzlevor.specs.Exported.{JudgeFileExport, judge_file_short, judge_file_told}
-use Rattle.wuzlevor.specs.Exported.{starts_told, StartsExport, starts_short, starts_is_told}
-use Rattle.wuzlevor.specs.Exported.{job_told, TextExport, JobExport, LeftmostExport, job_short, job_is_told}
+use Rattle.wuzlevor.specs.Exported.{job_told, JobExport, job_short, job_is_told}
 use Rattle.wuzlevor.specs.Exported.{rewrite_told, RewriteExport, rewrite_short, rewrite_is_told}
 use Rattle.wuzlevor.specs.Exported.{MergeExport, merge_short, merge_told}
 
@@ -74,25 +67,10 @@ judge_file_is {answer = answer} (judge_file_short h) = simp (lt-ltb (length answ
 judge_file_is {answer = answer} (judge_file_told h m) =
     ap (λ (x : JudgeAnswer). judge_told x answer) (judge-file.answer_is m) ∙ simp (le-ltb (length answer) 4 h)
 
-pub starts_is : {rule word : List ℕ} {limit : ℕ} {table : List ℕ} {list : List Start} {answer : List ℕ} {e : ℕ × List ℕ × List Start × List ℕ}
-    → StartsExport rule word limit table list answer e → e ≡ judge_starts rule word limit table list answer
-unfolding judge_starts
-starts_is {answer = answer} (starts_short h) = simp (lt-ltb (length answer) 4 h)
-starts_is {answer = answer} (starts_is_told h m) =
-    ap (λ (x : StartsAnswer). starts_told x answer) (starts.answer_is m) ∙ simp (le-ltb (length answer) 4 h)
-
--- an answer of a job, told
-job_tells : (M : List ℕ → List ℕ → JobAnswer → Type 0) {job out answer : List ℕ} {y : JobAnswer} {e : ℕ × List ℕ × List ℕ}
-    → ((a : JobAnswer) → M job out a → a ≡ y) → TextExport M job out answer e → e ≡ tell_job y out answer
-unfolding tell_job
-job_tells M {answer = answer} one (job_short h) = simp (lt-ltb (length answer) 5 h)
-job_tells M {answer = answer} one (job_is_told {a = a} h m) = ap (λ (x : JobAnswer). job_told x answer) (one a m) ∙ simp (le-ltb (length answer) 5 h)
-
 pub job_is : {job out answer : List ℕ} {e : ℕ × List ℕ × List ℕ} → JobExport job out answer e → e ≡ run_job job out answer
-job_is x = job_tells JobMeaning (λ _ m. job.answer_is m) x
-
-pub leftmost_is : {job out answer : List ℕ} {e : ℕ × List ℕ × List ℕ} → LeftmostExport job out answer e → e ≡ run_leftmost job out answer
-leftmost_is x = job_tells LeftmostMeaning (λ _ m. leftmost.answer_is m) x
+unfolding run_job
+job_is {answer = answer} (job_short h) = simp (lt-ltb (length answer) 5 h)
+job_is {answer = answer} (job_is_told h m) = ap (λ (x : JobAnswer). job_told x answer) (job.answer_is m) ∙ simp (le-ltb (length answer) 5 h)
 
 pub rewrite_is : {text out answer : List ℕ} {e : ℕ × List ℕ × List ℕ} → RewriteExport text out answer e → e ≡ rewrite_rule text out answer
 unfolding rewrite_rule

@@ -2,13 +2,12 @@
 -- the meanings. Assumes nothing.
 use Prim.Native.Nat.{ℕ, ◌≤◌, ◌<◌}
 use native.Mathlib.Omega.{arith}
-use mathlib.Core.Path.{◌≡◌, refl, sym, ap, ap₂, subst, ◌∙◌}
-use mathlib.Core.Bool.{Bool, true, false, cond, or-true}
+use mathlib.Core.Path.{◌≡◌, sym, ap, ap₂, subst, ◌∙◌}
+use mathlib.Core.Bool.{or-true}
 use mathlib.Core.Logic.{◌⊎◌, inl, inr}
 use mathlib.Core.List.{List, [], ◌∷◌, ◌++◌}
 use lib.ListN.{length, take}
-use lib.Dec.{ltb}
-use borrow.Author.Tests.{lt-ltb, le-ltb, ltb-true, ltb-false}
+use borrow.Author.Tests.{lt-ltb, le-ltb}
 use Rattle.rule.specs.RuleAnswer as rule
 use Rattle.rule.specs.RuleAnswer.{RuleAnswer, rule_values, node_count, special_count}
 use Rattle.rule.specs.RuleComputed.{rule_answer}
@@ -35,15 +34,9 @@ use Rattle.judge.specs.JudgeFileAnswer.{file_outcome_verdict, judge_file_values}
 use Rattle.judge.specs.JudgeFileComputed.{judge_file_answer}
 use Rattle.judge.specs.JudgeFileMeaning.{JudgeFileMeaning}
 use Rattle.judge.specs.declared.file.FileOutcome as judge-file-type
-use Rattle.struct_slices.specs.Filled.{filled}
-use Rattle.starts.specs.StartsAnswer as starts
-use Rattle.starts.specs.StartsAnswer.{for_list_values}
-use Rattle.starts.specs.StartsComputed.{start_of, RowsStand, record_count, judge_for_list, starts_answer}
-use Rattle.starts.specs.declared.Outcome as starts-type
-use Rattle.starts.specs.declared.Start.{Start}
-use Rattle.starts.proofs.Answered.{answer_means}
-use Rattle.starts.proofs.Results.{fits}
 use Rattle.job.specs.JobAnswer.{JobAnswer, job_values}
+use Rattle.job.specs.JobComputed.{job_answer}
+use Rattle.job.specs.JobMeaning.{JobMeaning}
 use Rattle.job.specs.declared.Answer as jobs
 use Rattle.rewrite.specs.RewriteAnswer as rewrite
 use Rattle.rewrite.specs.RewriteAnswer.{RewriteAnswer, rewrite_values, text_length}
@@ -58,16 +51,15 @@ use Rattle.merge.specs.MergeMeaning.{MergeMeaning}
 use Rattle.merge.specs.declared.Outcome as merging
 use Rattle.wuzlevor.specs.Told.{over, node_row, line_row, over_lines}
 use Rattle.wuzlevor.specs.Exported.{MergeExport, merge_short, merge_told}
-use Rattle.wuzlevor.specs.ExportComputed.{verdict_row, for_list_told, tell_starts, LinesFit}
+use Rattle.wuzlevor.specs.ExportComputed.{verdict_row, LinesFit}
 use Rattle.wuzlevor.specs.Exported.{unanswered, rule_told, RuleExport, rule_short, rule_is_told}
 use Rattle.wuzlevor.specs.Exported.{file_told, FileExport, file_short, file_is_told}
 use Rattle.wuzlevor.specs.Exported.{day_told, DayExport, day_short, day_is_told}
 use Rattle.wuzlevor.specs.Exported.{judge_told, JudgeExport, judge_short, judge_is_told}
 use Rattle.wuzlevor.specs.Exported.{JudgeFileExport, judge_file_short, judge_file_told}
-use Rattle.wuzlevor.specs.Exported.{starts_told, StartsExport, starts_short, starts_is_told}
-use Rattle.wuzlevor.specs.Exported.{job_told, TextExport, job_short, job_is_told}
+use Rattle.wuzlevor.specs.Exported.{job_told, JobExport, job_short, job_is_told}
 use Rattle.wuzlevor.specs.Exported.{rewrite_told, RewriteExport, rewrite_short, rewrite_is_told}
-use Rattle.wuzlevor.specs.ExportComputed.{read_rule, read_rule_file, read_day, judge_spans, judge_rule_file, judge_starts, tell_job, rewrite_rule, merge_days}
+use Rattle.wuzlevor.specs.ExportComputed.{read_rule, read_rule_file, read_day, judge_spans, judge_rule_file, run_job, rewrite_rule, merge_days}
 
 -- the two clauses of a contract, for an effect b that tells the answer x
 both : {B : Type 0} (P : B → Type 0) {b x y : B} → b ≡ x → x ≡ y → P x → (b ≡ y) × P b
@@ -199,74 +191,20 @@ module _ {file word : List ℕ} {limit : ℕ} {table answer : List ℕ} where
       (ap (λ (x : JudgeAnswer). judge_told x answer) e ∙ simp (le-ltb (length answer) 4 h))
       (judge_file_told h means)
 
--- ---- tell_starts
-module _ (rule word : List ℕ) (limit : ℕ) (table : List ℕ) (room : ℕ) (answer : List ℕ) where
-  pub tell_returns : length answer < 4 → (unanswered, 0, table, answer) ≡ tell_starts rule word limit table room answer
-  unfolding tell_starts
-  tell_returns h = simp (lt-ltb (length answer) 4 h)
-
-  pub tell_writes : {t a : List ℕ} {v : Verdict} {m : ℕ} (o : starts-type.Outcome) → 4 ≤ length answer
-      → for_list_values o t ≡ judge_for_list rule word limit table room → v ≡ starts.outcome_verdict o → a ≡ over (verdict_row v) answer
-      → m ≡ record_count (starts.outcome_verdict o).number (length word) → (v.number, m, t, a) ≡ tell_starts rule word limit table room answer
-  unfolding tell_starts
-  tell_writes {t} {a} {v} {m} o h e s w em =
-      ap (λ (x : List ℕ). (v.number, m, t, x)) w
-      ∙ ap (λ (x : Verdict). (x.number, m, t, over (verdict_row x) answer)) s
-      ∙ ap (λ (x : ℕ). ((starts.outcome_verdict o).number, x, t, over (verdict_row (starts.outcome_verdict o)) answer)) em
-      ∙ ap (λ (x : JudgeAnswer). for_list_told x (length word) answer) e
-      ∙ simp (le-ltb (length answer) 4 h)
-
--- ---- wuz_judge_starts
-module _ (rule word : List ℕ) (limit : ℕ) (table : List ℕ) (list : List Start) (answer : List ℕ) where
-  -- what is told, where the answer is too short (b) and where it is not
-  abbrev told_by : Bool → ℕ × ℕ × List ℕ × List ℕ
-  told_by b = cond b (unanswered, 0, table, answer) (for_list_told (judge_for_list rule word limit table (length list)) (length word) answer)
-
-  -- what `fill` asks of what is told
-  abbrev Fillable : ℕ × ℕ × List ℕ × List ℕ → Type 0
-  Fillable x = (x.1 ≤ length list) × RowsStand x.2 x.1
-
-  fillable : (b : Bool) → Fillable (told_by b)
-  fillable true = (omega arith, λ (h : 0 < 0). absurd (omega arith))
-  fillable false = fits rule word limit table (length list) refl
-
-  pub starts_fits : {k m : ℕ} {t a : List ℕ} → (k, m, t, a) ≡ tell_starts rule word limit table (length list) answer
-      → (m ≤ length list) × RowsStand t m
-  unfolding tell_starts
-  starts_fits e = subst Fillable (sym e) (fillable (ltb (length answer) 4))
-
-  -- what is left, of what is told
-  abbrev leaves : ℕ × ℕ × List ℕ × List ℕ → ℕ × List ℕ × List Start × List ℕ
-  leaves x = (x.0, x.2, filled (start_of x.2 x.1) x.1 list, x.3)
-
-  left : (b : Bool) → ltb (length answer) 4 ≡ b
-      → (leaves (told_by b) ≡ cond b (unanswered, table, list, answer) (starts_told (starts_answer rule word limit table list) answer))
-      × StartsExport rule word limit table list answer (leaves (told_by b))
-  unfolding starts_answer
-  left true e = (refl, starts_short (ltb-true (length answer) 4 e))
-  left false e = (refl, starts_is_told (ltb-false (length answer) 4 e) (answer_means rule word limit table list))
-
-  pub starts_writes : {k m : ℕ} {t a : List ℕ} {l : List Start} → (k, m, t, a) ≡ tell_starts rule word limit table (length list) answer
-      → l ≡ filled (start_of t m) m list
-      → ((k, t, l, a) ≡ judge_starts rule word limit table list answer) × StartsExport rule word limit table list answer (k, t, l, a)
-  unfolding tell_starts judge_starts
-  starts_writes {k} {m} {t} {a} e w =
-      let (is, means) = left (ltb (length answer) 4) refl in
-      both (StartsExport rule word limit table list answer) (ap (λ (x : List Start). (k, t, x, a)) w ∙ ap leaves e) is means
-
--- ---- wuz_run_job and wuz_run_leftmost, whichever answer y is computed and whatever M says of it
-module _ (M : List ℕ → List ℕ → JobAnswer → Type 0) {job out answer : List ℕ} (y : JobAnswer) where
+-- ---- wuz_run_job
+module _ {job out answer : List ℕ} where
   pub job_returns : length answer < 5
-      → ((unanswered, out, answer) ≡ tell_job y out answer) × TextExport M job out answer (unanswered, out, answer)
-  unfolding tell_job
+      → ((unanswered, out, answer) ≡ run_job job out answer) × JobExport job out answer (unanswered, out, answer)
+  unfolding run_job
   job_returns h = (simp (lt-ltb (length answer) 5 h), job_short h)
 
-  pub job_writes : {o a : List ℕ} (r : jobs.Answer) → 5 ≤ length answer → job_values r o ≡ y → M job out (job_values r o)
+  pub job_writes : {o a : List ℕ} (r : jobs.Answer) → 5 ≤ length answer
+      → job_values r o ≡ job_answer job out → JobMeaning job out (job_values r o)
       → a ≡ over (r.number ∷ r.place ∷ r.found ∷ r.count ∷ r.n ∷ []) answer
-      → ((r.number, o, a) ≡ tell_job y out answer) × TextExport M job out answer (r.number, o, a)
-  unfolding tell_job
+      → ((r.number, o, a) ≡ run_job job out answer) × JobExport job out answer (r.number, o, a)
+  unfolding run_job
   job_writes {o} r h e means w =
-      both (TextExport M job out answer) (ap (λ (x : List ℕ). (r.number, o, x)) w)
+      both (JobExport job out answer) (ap (λ (x : List ℕ). (r.number, o, x)) w)
       (ap (λ (x : JobAnswer). job_told x answer) e ∙ simp (le-ltb (length answer) 5 h)) (job_is_told h means)
 
 -- ---- wuz_rewrite_rule

@@ -1,7 +1,6 @@
 -- What each call of the C interface returns and leaves in the buffers lent to it, computed. Assumes nothing.
--- That nothing else has `RuleExport`, `FileExport`, `DayExport`, `JudgeExport`, `JudgeFileExport`, `StartsExport`, `JobExport`, `LeftmostExport`,
--- `RewriteExport`, `MergeExport` is `rule_is`, `file_is`, `day_is`, `judge_is`, `judge_file_is`, `starts_is`, `job_is`, `leftmost_is`,
--- `rewrite_is`, `merge_is` in proofs/Determined.
+-- That nothing else has `RuleExport`, `FileExport`, `DayExport`, `JudgeExport`, `JudgeFileExport`, `JobExport`, `RewriteExport`, `MergeExport`
+-- is `rule_is`, `file_is`, `day_is`, `judge_is`, `judge_file_is`, `job_is`, `rewrite_is`, `merge_is` in proofs/Determined.
 use Rattle.std.specs.Prelude.{ℕ, ◌≤◌, ◌<◌, ◌≡◌, cond, ◌||◌, List, [], ◌∷◌, ltb, length}
 use Rattle.verdict.specs.declared.Verdict.{Verdict}
 use Rattle.rule.specs.RuleComputed.{rule_answer}
@@ -9,18 +8,12 @@ use Rattle.rule_file.specs.FileComputed.{file_answer}
 use Rattle.rule_line.specs.Coding.{line_at}
 use Rattle.rule_line.specs.declared.LineNodes.{LineNodes}
 use Rattle.day.specs.DayComputed.{day_answer}
-use Rattle.judge.specs.JudgeAnswer.{JudgeAnswer}
 use Rattle.judge.specs.JudgeComputed.{judge_answer}
 use Rattle.judge.specs.JudgeFileComputed.{judge_file_answer}
-use Rattle.starts.specs.StartsComputed.{record_count, judge_for_list, starts_answer}
-use Rattle.starts.specs.declared.Start.{Start}
-use Rattle.job.specs.JobAnswer.{JobAnswer}
 use Rattle.job.specs.JobComputed.{job_answer}
-use Rattle.leftmost_listing.specs.LeftmostComputed.{leftmost_answer}
 use Rattle.rewrite.specs.RewriteComputed.{rewrite_answer}
 use Rattle.merge.specs.MergeComputed.{merge_answer}
-use Rattle.wuzlevor.specs.Told.{over, judge_row}
-use Rattle.wuzlevor.specs.Exported.{unanswered, rule_told, file_told, day_told, judge_told, starts_told, job_told, rewrite_told}
+use Rattle.wuzlevor.specs.Exported.{unanswered, rule_told, file_told, day_told, judge_told, job_told, rewrite_told}
 
 -- of a text and the two buffers at entry
 unfoldable pub read_rule : List ℕ → List ℕ → List ℕ → ℕ × List ℕ × List ℕ
@@ -48,21 +41,9 @@ unfoldable pub judge_rule_file : List ℕ → List ℕ → ℕ → List ℕ → 
 judge_rule_file file word limit table answer =
     cond (ltb (length answer) 4) (unanswered, table, answer) (judge_told (judge_file_answer file word limit table) answer)
 
--- of a rule, a word, a limit and the three buffers at entry
-unfoldable pub judge_starts : List ℕ → List ℕ → ℕ → List ℕ → List Start → List ℕ → ℕ × List ℕ × List Start × List ℕ
-judge_starts rule word limit table list answer =
-    cond (ltb (length answer) 4) (unanswered, table, list, answer) (starts_told (starts_answer rule word limit table list) answer)
-
--- of a job's answer and the two buffers at entry
-unfoldable pub tell_job : JobAnswer → List ℕ → List ℕ → ℕ × List ℕ × List ℕ
-tell_job a out answer = cond (ltb (length answer) 5) (unanswered, out, answer) (job_told a answer)
-
 -- of a job and the two buffers at entry
-abbrev pub run_job : List ℕ → List ℕ → List ℕ → ℕ × List ℕ × List ℕ
-run_job job out answer = tell_job (job_answer job out) out answer
-
-abbrev pub run_leftmost : List ℕ → List ℕ → List ℕ → ℕ × List ℕ × List ℕ
-run_leftmost job out answer = tell_job (leftmost_answer job out) out answer
+unfoldable pub run_job : List ℕ → List ℕ → List ℕ → ℕ × List ℕ × List ℕ
+run_job job out answer = cond (ltb (length answer) 5) (unanswered, out, answer) (job_told (job_answer job out) answer)
 
 -- of a rule text and the two buffers at entry
 unfoldable pub rewrite_rule : List ℕ → List ℕ → List ℕ → ℕ × List ℕ × List ℕ
@@ -78,15 +59,6 @@ merge_days first second letters seconds answer =
 -- number, place, found and count
 abbrev pub verdict_row : Verdict → List ℕ
 verdict_row v = v.number ∷ v.place ∷ v.found ∷ v.count ∷ []
-
--- what is returned, the records that are to be written, and the buffers `table` and `answer`, of an answer for n events
-abbrev pub for_list_told : JudgeAnswer → ℕ → List ℕ → ℕ × ℕ × List ℕ × List ℕ
-for_list_told a n answer = (a.number, record_count a.number n, a.table, over (judge_row a) answer)
-
--- of a rule, a word, a limit, the length of a list and the two buffers at entry
-unfoldable pub tell_starts : List ℕ → List ℕ → ℕ → List ℕ → ℕ → List ℕ → ℕ × ℕ × List ℕ × List ℕ
-tell_starts rule word limit table room answer =
-    cond (ltb (length answer) 4) (unanswered, 0, table, answer) (for_list_told (judge_for_list rule word limit table room) (length word) answer)
 
 -- each of the first r lines has 64 records, and its m is no more
 abbrev pub LinesFit : ℕ → List LineNodes → Type 0

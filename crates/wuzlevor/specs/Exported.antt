@@ -11,16 +11,12 @@ use Rattle.day.specs.DayMeaning.{DayMeaning}
 use Rattle.judge.specs.JudgeAnswer.{JudgeAnswer}
 use Rattle.judge.specs.JudgeMeaning.{JudgeMeaning}
 use Rattle.judge.specs.JudgeFileMeaning.{JudgeFileMeaning}
-use Rattle.starts.specs.StartsAnswer.{StartsAnswer}
-use Rattle.starts.specs.StartsMeaning.{StartsMeaning}
-use Rattle.starts.specs.declared.Start.{Start}
 use Rattle.job.specs.JobAnswer.{JobAnswer}
 use Rattle.job.specs.JobMeaning.{JobMeaning}
-use Rattle.leftmost_listing.specs.LeftmostMeaning.{LeftmostMeaning}
 use Rattle.rewrite.specs.RewriteAnswer.{RewriteAnswer}
 use Rattle.rewrite.specs.RewriteMeaning.{RewriteMeaning}
 use Rattle.merge.specs.MergeMeaning.{MergeMeaning}
-use Rattle.wuzlevor.specs.Told.{over, line_row, over_lines, rule_row, rule_nodes, file_row, lines_of, day_row, judge_row, starts_row, job_row, rewrite_row}
+use Rattle.wuzlevor.specs.Told.{over, line_row, over_lines, rule_row, rule_nodes, file_row, lines_of, day_row, judge_row, job_row, rewrite_row}
 
 -- WUZ_UNANSWERED, the greatest 64-bit number
 abbrev pub unanswered : ℕ
@@ -73,32 +69,14 @@ pub data JudgeFileExport (file word : List ℕ) (limit : ℕ) (table answer : Li
   judge_file_told : {a : JudgeAnswer} → 4 ≤ length answer → JudgeFileMeaning file word limit table a
       → JudgeFileExport file word limit table answer (judge_told a answer)
 
--- ---- wuz_judge_starts: what is returned, and the buffers `table`, `list` and `answer`
-abbrev pub starts_told : StartsAnswer → List ℕ → ℕ × List ℕ × List Start × List ℕ
-starts_told a answer = (a.number, a.table, a.list, over (starts_row a) answer)
-
--- of a rule, a word, a limit and the three buffers at entry
-pub data StartsExport (rule word : List ℕ) (limit : ℕ) (table : List ℕ) (list : List Start) (answer : List ℕ)
-    : ℕ × List ℕ × List Start × List ℕ → Type 0 where
-  starts_short : length answer < 4 → StartsExport rule word limit table list answer (unanswered, table, list, answer)
-  starts_is_told : {a : StartsAnswer} → 4 ≤ length answer → StartsMeaning rule word limit table list a
-      → StartsExport rule word limit table list answer (starts_told a answer)
-
 -- ---- wuz_run_job: what is returned, and the buffers `out` and `answer`
 abbrev pub job_told : JobAnswer → List ℕ → ℕ × List ℕ × List ℕ
 job_told a answer = (a.number, a.out, over (job_row a) answer)
 
--- of a job and the two buffers at entry, where M says what the answer means
-pub data TextExport (M : List ℕ → List ℕ → JobAnswer → Type 0) (job out answer : List ℕ) : ℕ × List ℕ × List ℕ → Type 0 where
-  job_short : length answer < 5 → TextExport M job out answer (unanswered, out, answer)
-  job_is_told : {a : JobAnswer} → 5 ≤ length answer → M job out a → TextExport M job out answer (job_told a answer)
-
-abbrev pub JobExport : List ℕ → List ℕ → List ℕ → ℕ × List ℕ × List ℕ → Type 0
-JobExport = TextExport JobMeaning
-
--- ---- wuz_run_leftmost: the same of the leftmost listing
-abbrev pub LeftmostExport : List ℕ → List ℕ → List ℕ → ℕ × List ℕ × List ℕ → Type 0
-LeftmostExport = TextExport LeftmostMeaning
+-- of a job and the two buffers at entry
+pub data JobExport (job out answer : List ℕ) : ℕ × List ℕ × List ℕ → Type 0 where
+  job_short : length answer < 5 → JobExport job out answer (unanswered, out, answer)
+  job_is_told : {a : JobAnswer} → 5 ≤ length answer → JobMeaning job out a → JobExport job out answer (job_told a answer)
 
 -- ---- wuz_rewrite_rule: what is returned, and the buffers `out` and `answer`
 abbrev pub rewrite_told : RewriteAnswer → List ℕ → ℕ × List ℕ × List ℕ

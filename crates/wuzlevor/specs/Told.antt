@@ -7,7 +7,6 @@ use Rattle.rule_file.specs.FileAnswer.{FileAnswer}
 use Rattle.rule_line.specs.declared.LineNodes.{LineNodes}
 use Rattle.day.specs.DayAnswer.{DayAnswer}
 use Rattle.judge.specs.JudgeAnswer.{JudgeAnswer}
-use Rattle.starts.specs.StartsAnswer.{StartsAnswer}
 use Rattle.job.specs.JobAnswer.{JobAnswer}
 use Rattle.rewrite.specs.RewriteAnswer.{RewriteAnswer}
 
@@ -50,9 +49,6 @@ day_row a = a.number ∷ a.place ∷ a.found ∷ a.count ∷ a.n ∷ []
 
 abbrev pub judge_row : JudgeAnswer → List ℕ
 judge_row a = a.number ∷ a.place ∷ a.found ∷ a.count ∷ []
-
-abbrev pub starts_row : StartsAnswer → List ℕ
-starts_row a = a.number ∷ a.place ∷ a.found ∷ a.count ∷ []
 
 abbrev pub file_row : FileAnswer → List ℕ
 file_row a = a.number ∷ a.place ∷ a.found ∷ a.count ∷ a.r ∷ []

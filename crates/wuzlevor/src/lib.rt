@@ -3,12 +3,10 @@
 mod row;
 
 ghost use Rattle.std.specs.Prelude.{◌≡◌};
-ghost use Rattle.wuzlevor.specs.Exported.{RuleExport, FileExport, DayExport, JudgeExport, JudgeFileExport, StartsExport, JobExport, LeftmostExport};
-ghost use Rattle.wuzlevor.specs.Exported.{RewriteExport, MergeExport};
-ghost use Rattle.wuzlevor.specs.ExportComputed.{read_rule, read_rule_file, read_day, judge_spans, judge_rule_file, judge_starts, tell_starts};
-ghost use Rattle.wuzlevor.specs.ExportComputed.{run_job, run_leftmost, rewrite_rule, merge_days};
+ghost use Rattle.wuzlevor.specs.Exported.{RuleExport, FileExport, DayExport, JudgeExport, JudgeFileExport, JobExport, RewriteExport, MergeExport};
+ghost use Rattle.wuzlevor.specs.ExportComputed.{read_rule, read_rule_file, read_day, judge_spans, judge_rule_file, run_job, rewrite_rule, merge_days};
 
-use starts::Start;
+use verdict::Verdict;
 
 // The elements that each call writes to its answer, and those that `nodes` and `lines` must have.
 const RULE_ANSWER: usize = 6;
@@ -158,61 +156,6 @@ pub extern "C" fn wuz_judge_rule_file(
     said.number
 }
 
-// Judges the spans of a word by a rule, and lists what begins at each start.
-#[unsafe(no_mangle)]
-pub extern "C" fn wuz_judge_starts(
-    rule: &[u8],
-    word: &[u8],
-    limit: u64,
-    table: &mut [u64],
-    list: &mut [Start],
-    answer: &mut [u64],
-) -> u64
-    ensures value { (result, table.new, list.new, answer.new)
-        ≡ judge_starts rule.now word.now limit table.old list.old answer.old }
-    ensures meaning { StartsExport rule.now word.now limit table.old list.old answer.old
-        (result, table.new, list.new, answer.new) }
-{
-    let told = tell_starts(rule, word, limit, table, list.len(), answer);
-    starts::fill(list, told.records, table);
-    told.number
-}
-
-// What `wuz_judge_starts` returns, and how many records it is to write.
-#[derive(Drop)]
-struct Returned {
-    number: u64,
-    records: usize,
-}
-
-// Judges the spans of a word by a rule, for a list of `room` records, and writes the answer.
-fn tell_starts(
-    rule: &[u8],
-    word: &[u8],
-    limit: u64,
-    table: &mut [u64],
-    room: usize,
-    answer: &mut [u64],
-) -> Returned
-    ensures { (result.number, result.records, table.new, answer.new)
-        ≡ tell_starts rule.now word.now limit table.old room answer.old }
-{
-    if answer.len() < JUDGE_ANSWER {
-        return Returned {
-            number: UNANSWERED,
-            records: 0,
-        };
-    }
-    let outcome = starts::judge_for_list(rule, word, limit, table, room);
-    let said = starts::outcome_verdict(outcome);
-    row::write_four(answer, said);
-    let records = starts::record_count(outcome, word.len());
-    Returned {
-        number: said.number,
-        records: records,
-    }
-}
-
 // Runs a job.
 #[unsafe(no_mangle)]
 pub extern "C" fn wuz_run_job(job: &[u8], out: &mut [u8], answer: &mut [u64]) -> u64
@@ -225,23 +168,13 @@ pub extern "C" fn wuz_run_job(job: &[u8], out: &mut [u8], answer: &mut [u64]) ->
         return UNANSWERED;
     }
     let told = job::run(job, out);
-    row::write_job(answer, told);
-    told.number
-}
-
-// Runs a job, and lists its spans by the leftmost rule.
-#[unsafe(no_mangle)]
-pub extern "C" fn wuz_run_leftmost(job: &[u8], out: &mut [u8], answer: &mut [u64]) -> u64
-    ensures value { (result, out.new, answer.new)
-        ≡ run_leftmost job.now out.old answer.old }
-    ensures meaning { LeftmostExport job.now out.old answer.old
-        (result, out.new, answer.new) }
-{
-    if answer.len() < JOB_ANSWER {
-        return UNANSWERED;
-    }
-    let told = leftmost_listing::run(job, out);
-    row::write_job(answer, told);
+    let said = Verdict {
+        number: told.number,
+        place: told.place,
+        found: told.found,
+        count: told.count,
+    };
+    row::write_five(answer, said, told.n as u64);
     told.number
 }
 

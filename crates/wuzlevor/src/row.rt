@@ -3,7 +3,6 @@ ghost use Rattle.std.specs.Prelude.{◌≡◌, [], ◌∷◌, ◌++◌, ◌≤�
 ghost use Rattle.wuzlevor.specs.Told.{over, node_row, line_row, over_lines};
 ghost use Rattle.wuzlevor.specs.ExportComputed.{verdict_row, LinesFit};
 
-use job::Answer;
 use regex::{Node, kind_number};
 use rule_line::LineNodes;
 use verdict::Verdict;
@@ -26,21 +25,6 @@ pub fn write_five(answer: &mut [u64], said: Verdict, n: u64)
 {
     write_four(answer, said);
     answer[4] = n;
-}
-
-// The answer to a job.
-pub fn write_job(answer: &mut [u64], told: Answer)
-    requires { 5 ≤ length answer.old }
-    ensures { answer.new
-        ≡ over (told.number ∷ told.place ∷ told.found ∷ told.count ∷ told.n ∷ []) answer.old }
-{
-    let said = Verdict {
-        number: told.number,
-        place: told.place,
-        found: told.found,
-        count: told.count,
-    };
-    write_five(answer, said, told.n as u64);
 }
 
 // Number, place, found and count, and m and k.

@@ -1,4 +1,4 @@
-//! The binary `compare`: the proved library and programs against the second program.
+//! The binary `compare`: the proved library and program against the second program.
 
 use std::env;
 use std::ffi::OsStr;
@@ -6,13 +6,11 @@ use std::io;
 use std::process::ExitCode;
 
 use second::compare::commands::{self, Cases};
-use second::compare::programs::{Installed, Program};
 use second::compare::proved;
 
 const USAGE: &str = "usage: compare edges
        compare library SEED COUNT [FIRST]
-       compare jobs PROGRAM SEED COUNT [FIRST]
-       compare leftmost PROGRAM SEED COUNT [FIRST]";
+       compare jobs PROGRAM SEED COUNT [FIRST]";
 
 fn main() -> io::Result<ExitCode> {
     let arguments: Vec<String> = env::args().collect();
@@ -42,27 +40,17 @@ fn run_command(arguments: &[&str]) -> Option<io::Result<bool>> {
             let cases = cases(numbers)?;
             Some(commands::library(library, cases, &command, &mut output))
         }
-        [binary, name, path, ref numbers @ ..] => {
-            let command = format!("{binary} {name} {path}");
-            let (program, path) = (program(name)?, OsStr::new(path));
-            let (installed, cases) = (Installed { program, path }, cases(numbers)?);
+        [binary, "jobs", program, ref numbers @ ..] => {
+            let command = format!("{binary} jobs {program}");
+            let (program, cases) = (OsStr::new(program), cases(numbers)?);
             Some(commands::jobs(
                 library,
-                installed,
+                program,
                 cases,
                 &command,
                 &mut output,
             ))
         }
-        _ => None,
-    }
-}
-
-/// Which program a command compares.
-fn program(name: &str) -> Option<Program> {
-    match name {
-        "jobs" => Some(Program::Checker),
-        "leftmost" => Some(Program::Leftmost),
         _ => None,
     }
 }

@@ -1,19 +1,15 @@
-//! The ten calls of the C interface, with every buffer as a slice.
+//! The eight calls of the C interface, with every buffer as a slice.
 
 use std::fmt;
 
 use super::hours::Hours;
 use super::letters::Letters;
-use super::listings::Listings;
 use super::merges::Merges;
 use super::names::{self, Names};
-use super::programs::Program;
 use super::sets::Sets;
 use super::stars::Stars;
-use super::start_lists::Lists;
 use super::trouble::Trouble;
 use crate::limits::MAX_RULE_LINES;
-use crate::starts::Start;
 
 /// How many numbers the nodes' buffer must have, however few of them a rule takes.
 pub const NODES: usize = 128;
@@ -77,19 +73,6 @@ pub enum Call<'a> {
         seconds: &'a mut [u32],
         answer: &'a mut [u64],
     },
-    JudgeStarts {
-        rule: &'a [u8],
-        word: &'a [u8],
-        limit: u64,
-        table: &'a mut [u64],
-        list: &'a mut [Start],
-        answer: &'a mut [u64],
-    },
-    RunLeftmost {
-        job: &'a [u8],
-        out: &'a mut [u8],
-        answer: &'a mut [u64],
-    },
 }
 
 /// A library that does the calls and gives what each returns; the text names the case, for messages
@@ -107,14 +90,9 @@ pub enum Callee {
     JudgeRuleFile,
     RewriteRule,
     MergeDays,
-    JudgeStarts,
-    RunLeftmost,
     Program,
     /// The program while something happens to its standard input or output.
     Troubled,
-    LeftmostProgram,
-    /// The program `leftmost` while something happens to its standard input or output.
-    LeftmostTroubled,
 }
 
 /// A callee with the kinds of its cases that have to come.
@@ -141,10 +119,6 @@ pub enum Kind {
     ShownStars(Stars),
     /// Besides its number it shows this of the merging of two days.
     ShownMerges(Merges),
-    /// Besides its number it shows this of a list of starts.
-    ShownLists(Lists),
-    /// Besides its number it shows this of a leftmost listing.
-    ShownListings(Listings),
     /// This happens to the program.
     Trouble(Trouble),
 }
@@ -171,8 +145,6 @@ impl fmt::Display for Kind {
             Kind::ShownSets(sets) => sets.fmt(formatter),
             Kind::ShownStars(stars) => stars.fmt(formatter),
             Kind::ShownMerges(merges) => merges.fmt(formatter),
-            Kind::ShownLists(lists) => lists.fmt(formatter),
-            Kind::ShownListings(listings) => listings.fmt(formatter),
             Kind::Trouble(trouble) => trouble.fmt(formatter),
         }
     }
@@ -180,7 +152,7 @@ impl fmt::Display for Kind {
 
 impl Callee {
     /// The calls of the library.
-    pub const LIBRARY: [Callee; 10] = [
+    pub const LIBRARY: [Callee; 8] = [
         Callee::ReadRule,
         Callee::ReadDay,
         Callee::Judge,
@@ -189,11 +161,9 @@ impl Callee {
         Callee::JudgeRuleFile,
         Callee::RewriteRule,
         Callee::MergeDays,
-        Callee::JudgeStarts,
-        Callee::RunLeftmost,
     ];
 
-    /// How many elements of its answer a call writes; a program has no such buffer.
+    /// How many elements of its answer a call writes; the program has no such buffer.
     pub fn answer_length(self) -> usize {
         match self {
             Callee::ReadRule => 6,
@@ -201,65 +171,38 @@ impl Callee {
             | Callee::RunJob
             | Callee::ReadRuleFile
             | Callee::RewriteRule
-            | Callee::MergeDays
-            | Callee::RunLeftmost => 5,
-            Callee::Judge | Callee::JudgeRuleFile | Callee::JudgeStarts => 4,
-            Callee::Program
-            | Callee::Troubled
-            | Callee::LeftmostProgram
-            | Callee::LeftmostTroubled => 0,
+            | Callee::MergeDays => 5,
+            Callee::Judge | Callee::JudgeRuleFile => 4,
+            Callee::Program | Callee::Troubled => 0,
         }
     }
 
     /// Every kind of case there can be, but for the lines at which a rule file is refused.
     pub fn kinds(self) -> Vec<Kind> {
-        match self {
-            Callee::Troubled => return troubles(Program::Checker),
-            Callee::LeftmostTroubled => return troubles(Program::Leftmost),
-            _ => {}
-        }
-        let numbers = self.numbers().into_iter().map(Kind::Number);
-        let is_program = matches!(self, Callee::Program | Callee::LeftmostProgram);
-        let unanswered = (!is_program).then_some(Kind::Unanswered);
-        numbers.chain(unanswered).chain(self.shown()).collect()
-    }
-
-    /// Every number that can come.
-    fn numbers(self) -> Vec<u32> {
-        match self {
+        let numbers: Vec<u32> = match self {
             Callee::ReadRule => (0..=6).chain([20, 21]).collect(),
             Callee::ReadDay => [0].into_iter().chain(11..=15).collect(),
             Callee::Judge => (0..=10).chain([20, 21]).collect(),
-            Callee::RunJob | Callee::RunLeftmost => {
-                (0..=6).chain(11..=16).chain([20, 21]).collect()
-            }
+            Callee::RunJob => (0..=6).chain(11..=16).chain([20, 21]).collect(),
             Callee::ReadRuleFile => (0..=6).chain(16..=21).collect(),
             Callee::JudgeRuleFile => (0..=10).chain(16..=21).collect(),
             Callee::RewriteRule => (0..=6).chain([15, 20]).collect(),
             Callee::MergeDays => [0].into_iter().chain(11..=15).chain([22]).collect(),
-            Callee::JudgeStarts => (0..=10).chain([20, 21, 23]).collect(),
-            // A program's own buffer takes every text, so it never gives 15.
-            Callee::Program | Callee::LeftmostProgram => {
-                (0..=6).chain(11..=14).chain([16, 20, 21]).collect()
-            }
-            Callee::Troubled | Callee::LeftmostTroubled => Vec::new(),
-        }
-    }
-
-    /// All that cases have to show besides.
-    fn shown(self) -> Vec<Kind> {
+            // The program's own buffer takes every text, so it never gives 15.
+            Callee::Program => (0..=6).chain(11..=14).chain([16, 20, 21]).collect(),
+            Callee::Troubled => return Trouble::ALL.map(Kind::Trouble).to_vec(),
+        };
+        let unanswered = (self != Callee::Program).then_some(Kind::Unanswered);
+        let numbers = numbers.into_iter().map(Kind::Number);
         let letters = Letters::of(self).iter().copied().map(Kind::Shown);
         let names = Names::of(self).iter().copied().map(Kind::ShownNames);
         let hours = Hours::of(self).iter().copied().map(Kind::ShownHours);
         let sets = Sets::of(self).iter().copied().map(Kind::ShownSets);
         let stars = Stars::of(self).iter().copied().map(Kind::ShownStars);
         let merges = Merges::of(self).iter().copied().map(Kind::ShownMerges);
-        let lists = Lists::of(self).iter().copied().map(Kind::ShownLists);
-        let listings = Listings::of(self).into_iter();
-        let listings = listings.map(Kind::ShownListings);
         let shown = letters.chain(names).chain(hours).chain(sets);
         let shown = shown.chain(stars).chain(merges);
-        shown.chain(lists).chain(listings).collect()
+        numbers.chain(unanswered).chain(shown).collect()
     }
 
     /// What a run with many cases must have.
@@ -277,12 +220,6 @@ impl Callee {
     }
 }
 
-/// All that can happen to a program.
-fn troubles(program: Program) -> Vec<Kind> {
-    let all = Trouble::of(program).into_iter();
-    all.map(Kind::Trouble).collect()
-}
-
 impl fmt::Display for Callee {
     fn fmt(&self, formatter: &mut fmt::Formatter) -> fmt::Result {
         formatter.write_str(match self {
@@ -294,12 +231,8 @@ impl fmt::Display for Callee {
             Callee::JudgeRuleFile => "wuz_judge_rule_file",
             Callee::RewriteRule => "wuz_rewrite_rule",
             Callee::MergeDays => "wuz_merge_days",
-            Callee::JudgeStarts => "wuz_judge_starts",
-            Callee::RunLeftmost => "wuz_run_leftmost",
             Callee::Program => "the program",
             Callee::Troubled => "the program in trouble",
-            Callee::LeftmostProgram => "the program leftmost",
-            Callee::LeftmostTroubled => "the program leftmost in trouble",
         })
     }
 }

@@ -5,8 +5,7 @@ use super::call::{Call, Callee, Kind, Library, UNANSWERED};
 use super::lent::{Difference, Dirt, Lent, Side};
 use super::reference;
 use super::request::{Asked, Request};
-use super::{hours, letters, listings, merges, names, sets, stars, start_lists};
-use crate::starts::Start;
+use super::{hours, letters, merges, names, sets, stars};
 
 /// What came of one comparison.
 pub struct Checked {
@@ -22,7 +21,7 @@ pub fn check(library: &Library, case: &str, request: &Request) -> Checked {
     let mut buffers = Buffers::new(request);
     let returned = library(case, buffers.call(request, Side::Library));
     let number = reference::run(buffers.call(request, Side::Second));
-    let shown = number.map(|number| buffers.shown(&request.asked, number));
+    let shown = number.map(|number| shown(&request.asked, number, buffers.place()));
     // The answer is looked at first, because it says the most.
     let difference = buffers.answer.difference();
     let expected = reference::returned(number);
@@ -35,9 +34,8 @@ pub fn check(library: &Library, case: &str, request: &Request) -> Checked {
     }
 }
 
-/// What a case shows if such a number should come, such an answer with it, and such a list.
-fn shown(asked: &Asked, number: u32, answer: &[u64], list: &[Start]) -> Vec<Kind> {
-    let (place, count) = (answer[1] as usize, answer[3]);
+/// What a case shows if such a number and place should come.
+fn shown(asked: &Asked, number: u32, place: usize) -> Vec<Kind> {
     let letters = letters::shown(asked, number, place);
     let letters = letters.into_iter().map(Kind::Shown);
     let names = names::shown(asked, number, place);
@@ -48,13 +46,8 @@ fn shown(asked: &Asked, number: u32, answer: &[u64], list: &[Start]) -> Vec<Kind
     let stars = stars.into_iter().map(Kind::ShownStars);
     let merges = merges::shown(asked, number);
     let merges = merges.into_iter().map(Kind::ShownMerges);
-    let lists = start_lists::shown(asked, number, count, list);
-    let lists = lists.into_iter().map(Kind::ShownLists);
-    let listings = listings::shown(asked, number, answer);
-    let listings = listings.into_iter().map(Kind::ShownListings);
     let shown = letters.chain(names).chain(hours).chain(sets);
-    let shown = shown.chain(stars).chain(merges);
-    shown.chain(lists).chain(listings).collect()
+    shown.chain(stars).chain(merges).collect()
 }
 
 /// What is wrong with the number that a call returned.
@@ -87,8 +80,6 @@ struct Buffers {
     lines: Lent<u64>,
     /// The nodes of a rule or of a rule file, or the table of a judgement.
     numbers: Lent<u64>,
-    /// The list of starts of a judgement.
-    list: Lent<Start>,
     answer: Lent<u64>,
 }
 
@@ -119,7 +110,7 @@ impl Buffers {
                 buffers.second = Lent::holding("word", word, dirt);
                 buffers.numbers = Lent::dirty("table", *table, dirt);
             }
-            Asked::Job { job, out } | Asked::Leftmost { job, out } => {
+            Asked::Job { job, out } => {
                 buffers.first = Lent::holding("job", job, dirt);
                 buffers.bytes = Lent::dirty("out", *out, dirt);
             }
@@ -149,18 +140,6 @@ impl Buffers {
                 buffers.bytes = Lent::dirty("letters", *letters, dirt);
                 buffers.seconds = Lent::dirty("seconds", *seconds, dirt);
             }
-            Asked::Starts {
-                rule,
-                word,
-                table,
-                list,
-                ..
-            } => {
-                buffers.first = Lent::holding("rule", rule, dirt);
-                buffers.second = Lent::holding("word", word, dirt);
-                buffers.numbers = Lent::dirty("table", *table, dirt);
-                buffers.list = Lent::dirty("list", *list, dirt);
-            }
         }
         buffers
     }
@@ -177,7 +156,6 @@ impl Buffers {
             seconds: Lent::dirty(NONE, 0, dirt),
             lines: Lent::dirty(NONE, 0, dirt),
             numbers: Lent::dirty(NONE, 0, dirt),
-            list: Lent::dirty(NONE, 0, dirt),
             answer: Lent::dirty(NONE, 0, dirt),
         }
     }
@@ -235,27 +213,12 @@ impl Buffers {
                 seconds: self.seconds.side(side),
                 answer,
             },
-            Asked::Starts { limit, .. } => Call::JudgeStarts {
-                rule: first,
-                word: self.second.side(side),
-                limit,
-                table: self.numbers.side(side),
-                list: self.list.side(side),
-                answer,
-            },
-            Asked::Leftmost { .. } => Call::RunLeftmost {
-                job: first,
-                out: self.bytes.side(side),
-                answer,
-            },
         }
     }
 
-    /// What a case shows if such a number should come, with what else should.
-    fn shown(&mut self, asked: &Asked, number: u32) -> Vec<Kind> {
-        let answer = self.answer.side(Side::Second);
-        let list = self.list.side(Side::Second);
-        shown(asked, number, answer, list)
+    /// The place that should come in an answer.
+    fn place(&mut self) -> usize {
+        self.answer.side(Side::Second)[1] as usize
     }
 
     /// The first difference outside the answer.
@@ -263,7 +226,6 @@ impl Buffers {
         let lines = self.lines.difference();
         lines
             .or_else(|| self.numbers.difference())
-            .or_else(|| self.list.difference())
             .or_else(|| self.bytes.difference())
             .or_else(|| self.seconds.difference())
             .or_else(|| self.first.difference())

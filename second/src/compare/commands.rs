@@ -1,16 +1,16 @@
 //! The commands of the binary `compare`.
 
+use std::ffi::OsStr;
 use std::fmt::Display;
 use std::io::{self, Write};
 
 use super::call::{Callee, Library, Required};
 use super::check::check;
 use super::program::{self, Input};
-use super::programs::Installed;
 use super::progress::Progress;
 use super::random_requests::{lend, source, with_out, Draws};
 use super::run::{Label, Run};
-use super::{edge_requests, trouble};
+use super::{edge_requests, job_edges, trouble};
 
 /// From so many random requests on, every number has to come.
 const MANY_REQUESTS: usize = 20_000;
@@ -99,21 +99,20 @@ pub fn library(
     run.finish(&required)
 }
 
-/// Compares one of the programs in trouble, and then whole jobs, each through the program and the
-/// library; tells whether all is well.
+/// Compares the program in trouble, and then whole jobs, each through the program and the library;
+/// tells whether all is well.
 pub fn jobs(
     library: &Library,
-    installed: Installed,
+    program: &OsStr,
     cases: Cases,
     command: &str,
     output: &mut dyn Write,
 ) -> io::Result<bool> {
     let progress = Progress::start();
-    let program = installed.program;
-    let (edges, draws) = (program.edges(), Draws::new());
+    let (edges, draws) = (job_edges::jobs(), Draws::new());
     let mut run = Run::new(output);
     let again = format!("{command} {} 0", cases.seed);
-    troubles(&mut run, installed, &again, &progress)?;
+    troubles(&mut run, program, &again, &progress)?;
     for number in cases.numbers() {
         if run.is_over() {
             break;
@@ -121,33 +120,26 @@ pub fn jobs(
         progress.doing(cases.doing("jobs", number));
         let mut random = source(cases.seed, number);
         let edge = number.checked_sub(1).and_then(|index| edges.get(index));
-        let bytes = edge.cloned();
-        let bytes = bytes.unwrap_or_else(|| draws.job(&mut random, program));
+        let bytes = edge.cloned().unwrap_or_else(|| draws.job(&mut random));
         let input = Input::drawn(&mut random, bytes);
-        let asked = with_out(&mut random, program, input.job().to_vec());
+        let asked = with_out(&mut random, input.job().to_vec());
         let request = lend(&mut random, asked);
         let label = cases.label(command, number);
-        let by_program = program::check(installed, &input);
+        let by_program = program::check(program, &input);
         let by_library = check(library, &label.name, &request);
         run.add(&label, &[(by_program, &input), (by_library, &request)])?;
     }
-    let required: Vec<Required> = match cases.count {
-        MANY_JOBS.. => [program.troubled(), program.call(), program.callee()]
-            .map(Callee::required)
-            .into(),
-        _ => vec![program.troubled().required()],
+    let required: &[Callee] = match cases.count {
+        MANY_JOBS.. => &[Callee::Troubled, Callee::RunJob, Callee::Program],
+        _ => &[Callee::Troubled],
     };
+    let required: Vec<Required> = required.iter().map(|callee| callee.required()).collect();
     run.finish(&required)
 }
 
 /// Compares what the program does in trouble; the command shows it again.
-fn troubles(
-    run: &mut Run,
-    installed: Installed,
-    again: &str,
-    progress: &Progress,
-) -> io::Result<()> {
-    let cases = trouble::cases(installed.program);
+fn troubles(run: &mut Run, program: &OsStr, again: &str, progress: &Progress) -> io::Result<()> {
+    let cases = trouble::cases();
     for (index, case) in cases.iter().enumerate() {
         if run.is_over() {
             break;
@@ -158,7 +150,7 @@ fn troubles(
             name: format!("case {} of the program in trouble", index + 1),
             again: again.to_string(),
         };
-        run.add(&label, &[(trouble::check(installed, case), case)])?;
+        run.add(&label, &[(trouble::check(program, case), case)])?;
     }
     Ok(())
 }

@@ -1,21 +1,17 @@
 //! The edges as requests to the library: the streams of `second edges`, jobs, every byte where an
 //! event can stand, every two bytes in brackets, rule files, rewritings with every short text of
-//! stars, mergings, lists of starts and leftmost listings.
+//! stars, and mergings.
 
 use super::call::{Callee, FILE_LINES, FILE_NODES, NODES};
 use super::lent::Dirt;
-use super::programs::Program;
 use super::request::{Asked, Request};
-use super::{job_edges, mergings, rewritings, rule_file_requests, start_requests};
+use super::{job_edges, mergings, rewritings, rule_file_requests};
 use crate::limits::{LETTERS, MAX_MERGED};
-use crate::{day_edges, edges, letter_edges};
+use crate::{day_edges, edges, job, letter_edges};
 use crate::{rule_file_lines, set_edges, star_edges, stars, table};
 
 /// The streams of cases that `second edges` prints, but for `numbers`, which has none with a call.
-const STREAMS: [&str; 5] = ["rules", "days", "judge", LARGE, "known"];
-
-/// The stream with long words under many special nodes.
-const LARGE: &str = "judge-large";
+const STREAMS: [&str; 5] = ["rules", "days", "judge", "judge-large", "known"];
 
 /// The seed of the noise in what is lent.
 const NOISE: u64 = 1;
@@ -35,17 +31,10 @@ pub fn requests() -> Vec<Request> {
     for name in STREAMS {
         let cases = edges::named(name).expect("the streams of edges are named");
         let asked = |case| Asked::case(case, NODES + BEYOND);
-        let asked: Vec<Asked> = cases.into_iter().filter_map(asked).collect();
-        // The large ones take the most time.
-        let every = if name == LARGE { 4 } else { 1 };
-        requests.extend(with_lists(&asked, every));
-        requests.extend(asked.into_iter().flat_map(in_all_dirt));
+        requests.extend(cases.into_iter().filter_map(asked).flat_map(in_all_dirt));
     }
-    let jobs = [job_edges::jobs(), job_edges::readers_jobs()].concat();
-    let listed = jobs.iter().cloned().map(start_requests::listed);
-    let listed = listed.enumerate();
-    requests.extend(listed.map(|(index, asked)| in_one_dirt(asked, index)));
-    let jobs = jobs.into_iter().flat_map(with_outs);
+    let jobs = job_edges::jobs().into_iter();
+    let jobs = jobs.chain(job_edges::readers_jobs()).flat_map(with_outs);
     requests.extend(jobs.flat_map(in_all_dirt));
     // So many that each comes in ones or in noise alone, by turns.
     let calls = (0..=255).flat_map(with_byte);
@@ -54,12 +43,10 @@ pub fn requests() -> Vec<Request> {
     requests.extend(calls.map(|(index, asked)| in_one_dirt(asked, index)));
     requests.extend(rewritings::calls().flat_map(in_all_dirt));
     requests.extend(mergings::refusals().flat_map(in_all_dirt));
-    requests.extend(start_requests::varied_calls().flat_map(in_all_dirt));
     requests.extend(PLAIN_NAMES.into_iter().flat_map(with_plain_name));
-    // Two neighbours are about one file, one pair of files or one word, and come in the same dirt.
+    // Two neighbours are about one file, or one pair of files, and come in the same dirt.
     let calls = rule_file_requests::calls().into_iter();
-    let calls = calls.chain(mergings::calls());
-    let calls = calls.chain(start_requests::calls()).enumerate();
+    let calls = calls.chain(mergings::calls()).enumerate();
     requests.extend(calls.map(|(index, asked)| in_one_dirt(asked, index / 2)));
     requests.extend(too_short_to_answer());
     requests.extend(too_short_for_lines());
@@ -92,18 +79,6 @@ pub fn short_texts() -> impl Iterator<Item = Request> {
     })
 }
 
-/// The judge calls among some calls, or one in so many of them, each with a list of starts and in
-/// ones or in noise alone.
-fn with_lists(calls: &[Asked], every: usize) -> impl Iterator<Item = Request> + '_ {
-    let with_list = |(turn, asked)| {
-        let with_list = start_requests::with_list(asked, turn)?;
-        // The lengths of the list change by turns of four.
-        Some(in_one_dirt(with_list, turn / 4))
-    };
-    let calls = calls.iter().step_by(every).enumerate();
-    calls.filter_map(with_list)
-}
-
 /// A call in ones and in noise, its answer longer than it must be.
 fn in_all_dirt(asked: Asked) -> [Request; 2] {
     let answer = asked.callee().answer_length() + BEYOND;
@@ -126,13 +101,11 @@ fn with_plain_name(rule: &str) -> Vec<Request> {
 }
 
 /// Every call that takes a plain rule, with this one, and with such a word and such a day.
-fn with_plain_rule(text: Vec<u8>, word: &[u8], day: &[u8]) -> [Asked; 6] {
-    let (nodes, job) = (NODES, job_edges::job(&text, day));
+fn with_plain_rule(text: Vec<u8>, word: &[u8], day: &[u8]) -> [Asked; 4] {
+    let nodes = NODES;
     [
         judgement(&text, word),
-        start_requests::judged_with_room(&text, word),
-        start_requests::listed(job.clone()),
-        with_room(job),
+        with_room(job_edges::job(&text, day)),
         rewritings::with_room(&text),
         Asked::Rule { text, nodes },
     ]
@@ -140,25 +113,26 @@ fn with_plain_rule(text: Vec<u8>, word: &[u8], day: &[u8]) -> [Asked; 6] {
 
 /// A job with buffers for its text of every kind.
 fn with_outs(job: Vec<u8>) -> Vec<Asked> {
-    let outs = rewritings::outs(Program::Checker.text_length(&job)).into_iter();
-    let asked = |out| Program::Checker.asked(job.clone(), out);
-    outs.map(asked).collect()
+    let outs = rewritings::outs(text_length(&job)).into_iter();
+    outs.map(|out| {
+        let job = job.clone();
+        Asked::Job { job, out }
+    })
+    .collect()
+}
+
+/// How long the text of a job is; a refused one has none.
+pub fn text_length(bytes: &[u8]) -> usize {
+    job::judge_job(bytes).map_or(0, |report| report.lines().len())
 }
 
 /// A byte at every place where an event can stand, in every call that reads it there; the byte
 /// alone is among the streams for the two readers.
 fn with_byte(byte: u8) -> Vec<Asked> {
-    let mut calls = vec![
-        judgement(&[byte], LETTERS),
-        start_requests::judged_with_room(&[byte], LETTERS),
-    ];
+    let mut calls = vec![judgement(&[byte], LETTERS)];
     for rule in ["a", "!a", "!A", "!0"] {
         let words = [vec![byte]].into_iter().chain(letter_edges::words(byte));
-        let rule = rule.as_bytes();
-        calls.extend(words.flat_map(|word| {
-            let with_list = start_requests::judged_with_room(rule, &word);
-            [judgement(rule, &word), with_list]
-        }));
+        calls.extend(words.map(|word| judgement(rule.as_bytes(), &word)));
     }
     for text in letter_edges::rules(byte) {
         calls.extend(with_plain_rule(text, b"aA", b"E\t0\ta\nE\t0\tA\n"));
@@ -168,8 +142,7 @@ fn with_byte(byte: u8) -> Vec<Asked> {
         calls.extend(with_plain_rule(text, LETTERS, b"E\t0\tb\nE\t0\tB\n"));
     }
     for file in letter_edges::days(byte) {
-        let job = job_edges::job(b"!a", &file);
-        calls.extend([start_requests::listed(job.clone()), with_room(job)]);
+        calls.push(with_room(job_edges::job(b"!a", &file)));
         calls.extend(mergings::in_either_file(&file));
         calls.push(Asked::Day {
             file,
@@ -199,12 +172,11 @@ fn about_stars() -> impl Iterator<Item = Asked> {
     texts.flat_map(judged_and_in_file)
 }
 
-/// A rule that is judged, without a list of starts and with one, and as the line of a file.
-fn judged_and_in_file(text: Vec<u8>) -> [Asked; 4] {
+/// A rule that is judged, and as the line of a file.
+fn judged_and_in_file(text: Vec<u8>) -> [Asked; 3] {
     let file = rule_file_lines::line("x", &text);
     let [read, judged] = rule_file_requests::read_and_judged(file);
-    let with_list = start_requests::judged_with_room(&text, b"ab");
-    [judgement(&text, b"ab"), with_list, read, judged]
+    [judgement(&text, b"ab"), read, judged]
 }
 
 /// A judge call with the highest limit, and with a table for one special node.
@@ -219,7 +191,7 @@ fn judgement(rule: &[u8], word: &[u8]) -> Asked {
 
 /// A job with a buffer that is longer than its text.
 fn with_room(job: Vec<u8>) -> Asked {
-    let out = Program::Checker.text_length(&job) + BEYOND;
+    let out = text_length(&job) + BEYOND;
     Asked::Job { job, out }
 }
 
@@ -306,29 +278,23 @@ fn good_and_bad_calls() -> Vec<Asked> {
             limit: 7,
             table: 16,
         });
-        let job = job_edges::job(text, b"E\t0\ta\n");
         calls.push(Asked::Job {
-            job: job.clone(),
+            job: job_edges::job(text, b"E\t0\ta\n"),
             out: 64,
         });
-        calls.push(start_requests::listed(job));
-        calls.push(start_requests::judged_with_room(text, b"a"));
         // With enough room, and with too little.
         calls.extend([5, 1].map(|out| Asked::Rewriting {
             text: text.to_vec(),
             out,
         }));
     }
-    // Refused by 10, which alone changes the table and the list, and by 23 and 15.
+    // Refused by 10, which alone changes the table.
     calls.push(Asked::Judge {
         rule: b"!a".to_vec(),
         word: b"a".to_vec(),
         limit: 6,
         table: 16,
     });
-    calls.extend([2, 1].map(|list| start_requests::with(b"!a", b"a", 6, 16, list)));
-    let job = job_edges::job(b"a", b"E\t0\ta\n");
-    calls.push(Asked::Leftmost { job, out: 5 });
     for file in [&b"R\tx\t!a\n"[..], b"R\tx\t_\n"] {
         calls.extend(rule_file_requests::read_and_judged(file.to_vec()));
     }

@@ -26,12 +26,9 @@ impl Hours {
     /// What the cases of a callee have to show.
     pub fn of(callee: Callee) -> &'static [Hours] {
         match callee {
-            Callee::ReadDay
-            | Callee::RunJob
-            | Callee::MergeDays
-            | Callee::RunLeftmost
-            | Callee::Program
-            | Callee::LeftmostProgram => &[Hours::InLast, Hours::AfterLast],
+            Callee::ReadDay | Callee::RunJob | Callee::MergeDays | Callee::Program => {
+                &[Hours::InLast, Hours::AfterLast]
+            }
             _ => &[],
         }
     }
@@ -50,7 +47,7 @@ impl fmt::Display for Hours {
 pub fn shown(asked: &Asked, number: u32, place: usize) -> Option<Hours> {
     match asked {
         Asked::Day { file, .. } => shown_by_day(file, number, place),
-        Asked::Job { job, .. } | Asked::Leftmost { job, .. } => shown_by_job(job, number, place),
+        Asked::Job { job, .. } => shown_by_job(job, number, place),
         Asked::Merging { files, .. } => shown_by_day(&decisive(files), number, place),
         _ => None,
     }

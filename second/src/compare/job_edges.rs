@@ -1,5 +1,4 @@
-//! The whole jobs that walk document 01's edges, of which its own whole case is the first, and those
-//! of request h).
+//! The whole jobs that walk document 01's edges; its own whole case is the first.
 
 use crate::judge_edges::{repeated, KNOWN_DAYS};
 use crate::letter_edges::{self, ENDS};
@@ -7,7 +6,7 @@ use crate::limits::{LAST_SECOND, LETTERS, MAX_DAY_BYTES, MAX_DAY_LINES, MAX_JOB_
 use crate::lines::{good_line, joined};
 use crate::rule_edges::{example_1, run};
 use crate::star_edges::nested_stars;
-use crate::{day_edges, hour_edges, rule_edges, start_edges, stream::Case};
+use crate::{day_edges, hour_edges, rule_edges, stream::Case};
 
 /// Document 01's whole case.
 const WHOLE_CASE: &[u8] = b"R\t!a\nE\t0\ta\n";
@@ -166,12 +165,6 @@ pub fn jobs() -> Vec<Vec<u8>> {
     jobs
 }
 
-/// The jobs that walk the edges of leftmost listings.
-pub fn leftmost_jobs() -> impl Iterator<Item = Vec<u8>> {
-    let pairs = start_edges::examples().chain(start_edges::long());
-    pairs.map(|(rule, word)| of_word(&rule, &word))
-}
-
 /// Every edge of the readers as a part of a job, whose other part is good.
 pub fn readers_jobs() -> Vec<Vec<u8>> {
     let texts = rule_edges::texts().into_iter();
@@ -191,7 +184,7 @@ pub fn job(rule: &[u8], day: &[u8]) -> Vec<u8> {
 }
 
 /// A job of a rule and the day with such a word, an event each second.
-pub fn of_word(rule: &[u8], word: &[u8]) -> Vec<u8> {
+fn of_word(rule: &[u8], word: &[u8]) -> Vec<u8> {
     let events = word.iter().enumerate();
     let lines: Vec<_> = events
         .map(|(second, &letter)| good_line(second, letter))

@@ -3,7 +3,6 @@
 use std::fmt::{self, Display};
 
 use crate::random::Random;
-use crate::starts::Start;
 
 /// How many canaries stand in front of a lent buffer, and how many behind it.
 pub const CANARIES: usize = 256;
@@ -35,7 +34,7 @@ pub trait Element: Copy + PartialEq {
     /// How many elements are shown on each side of one that differs.
     const AROUND: usize;
 
-    /// An element of dirt; as a byte, a second or a start it is none that a call would write.
+    /// An element of dirt; as a byte or a second it is none that a call would write.
     fn noise(bits: u64) -> Self;
 
     /// Elements as text.
@@ -75,24 +74,6 @@ impl Element for u64 {
 
     fn shown(elements: &[Self]) -> String {
         format!("{elements:?}")
-    }
-}
-
-impl Element for Start {
-    const AROUND: usize = 2;
-
-    fn noise(bits: u64) -> Self {
-        let [spans, shortest, longest] = [0, 16, 32].map(|shift| u32::noise(bits >> shift));
-        Start {
-            spans,
-            shortest,
-            longest,
-        }
-    }
-
-    fn shown(elements: &[Self]) -> String {
-        let elements: Vec<String> = elements.iter().map(Start::to_string).collect();
-        format!("[{}]", elements.join(", "))
     }
 }
 

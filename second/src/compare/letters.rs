@@ -36,13 +36,13 @@ impl Letters {
                 &[CapitalInRule, BetweenInRule]
             }
             Callee::ReadDay | Callee::MergeDays => &[CapitalInDay, BetweenInDay],
-            Callee::Judge | Callee::JudgeRuleFile | Callee::JudgeStarts => {
+            Callee::Judge | Callee::JudgeRuleFile => {
                 &[CapitalInRule, CapitalInWord, BetweenInRule, BetweenInWord]
             }
-            Callee::RunJob | Callee::RunLeftmost | Callee::Program | Callee::LeftmostProgram => {
+            Callee::RunJob | Callee::Program => {
                 &[CapitalInRule, CapitalInDay, BetweenInRule, BetweenInDay]
             }
-            Callee::Troubled | Callee::LeftmostTroubled => &[],
+            Callee::Troubled => &[],
         }
     }
 }
@@ -71,12 +71,8 @@ pub fn shown(asked: &Asked, number: u32, place: usize) -> Vec<Letters> {
             merged = mergings::decisive(files);
             parts.day = &merged;
         }
-        Asked::Judge { rule, word, .. } | Asked::Starts { rule, word, .. } => {
-            (parts.rule, parts.word) = (rule, word);
-        }
-        Asked::Job { job, .. } | Asked::Leftmost { job, .. } => {
-            return shown_by_job(job, number, place);
-        }
+        Asked::Judge { rule, word, .. } => (parts.rule, parts.word) = (rule, word),
+        Asked::Job { job, .. } => return shown_by_job(job, number, place),
         Asked::RuleFile { file, .. } => return shown_by_file(file, b"", number, place),
         Asked::JudgeFile { file, word, .. } => return shown_by_file(file, word, number, place),
     }

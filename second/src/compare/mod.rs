@@ -10,12 +10,10 @@ pub mod hours;
 pub mod job_edges;
 pub mod lent;
 pub mod letters;
-pub mod listings;
 pub mod merges;
 pub mod mergings;
 pub mod names;
 pub mod program;
-pub mod programs;
 pub mod progress;
 #[cfg(feature = "proved")]
 #[allow(unsafe_code)]
@@ -31,8 +29,6 @@ pub mod run;
 pub mod running;
 pub mod sets;
 pub mod stars;
-pub mod start_lists;
-pub mod start_requests;
 pub mod tally;
 pub mod trouble;
 pub mod troubled_input;

@@ -1,4 +1,4 @@
-//! A proved program: a job into its standard input, and its standard output compared.
+//! The proved program: a job into its standard input, and its standard output compared.
 
 use std::ffi::OsStr;
 use std::fmt;
@@ -8,15 +8,13 @@ use std::process::Command;
 use std::sync::mpsc::{self, Receiver};
 use std::thread;
 
-use super::call::Kind;
+use super::call::{Callee, Kind};
 use super::check::Checked;
 use super::lent::{first_different, shown_around, Difference};
-use super::listings::shown_by_spans;
-use super::programs::{Installed, Program};
 use super::request::shown_bytes;
 use super::running::{Running, PATIENCE, REST};
 use super::{hours, letters, sets};
-use crate::job::{self, Report};
+use crate::job;
 use crate::limits::MAX_JOB_BYTES;
 use crate::random::Random;
 
@@ -78,40 +76,25 @@ fn random_pieces(random: &mut Random, mut length: usize) -> Vec<usize> {
 }
 
 /// Runs the program on an input, and compares what it prints.
-pub fn check(installed: Installed, input: &Input) -> Checked {
-    let program = installed.program;
-    let judged = job::judge_job(input.job());
-    let expected = match &judged {
-        Ok(report) => program.lines(report),
-        Err(_) => program.output(input.job()),
+pub fn check(program: &OsStr, input: &Input) -> Checked {
+    let (number, place, expected) = match job::judge_job(input.job()) {
+        Ok(report) => (0, 0, report.lines()),
+        Err((number, place)) => (number, place, job::output(input.job())),
     };
-    let difference = match run(installed.path, input) {
+    let difference = match run(program, input) {
         Ok(ran) => ran.difference(expected.as_bytes()),
         Err(failure) => Some(failed_run(failure)),
     };
-    let (number, place) = judged.as_ref().map_or_else(|&refusal| refusal, |_| (0, 0));
-    let listings = judged.map_or(Vec::new(), |report| shown_by_listing(program, &report));
     let letters = letters::shown_by_job(input.job(), number, place);
     let hours = hours::shown_by_job(input.job(), number, place).map(Kind::ShownHours);
     let sets = sets::shown_by_job(input.job(), number);
     let sets = sets.into_iter().map(Kind::ShownSets);
     let letters = letters.into_iter().map(Kind::Shown);
     Checked {
-        callee: program.callee(),
+        callee: Callee::Program,
         kind: Kind::Number(number),
-        shown: letters.chain(hours).chain(sets).chain(listings).collect(),
+        shown: letters.chain(hours).chain(sets).collect(),
         difference,
-    }
-}
-
-/// What an accepted job shows of its listing, where the program lists the leftmost spans.
-fn shown_by_listing(program: Program, report: &Report) -> Vec<Kind> {
-    match program {
-        Program::Checker => Vec::new(),
-        Program::Leftmost => {
-            let shown = shown_by_spans(&report.spans).into_iter();
-            shown.map(Kind::ShownListings).collect()
-        }
     }
 }
 

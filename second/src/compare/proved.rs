@@ -3,7 +3,6 @@
 use std::thread;
 
 use super::call::Call;
-use crate::starts::Start;
 
 /// The stack on which the library is called: it has to do with this much, whatever it is asked.
 const LIBRARY_STACK: usize = 512 * 1024;
@@ -87,27 +86,6 @@ extern "C" {
         answer: *mut u64,
         answer_len: usize,
     ) -> u64;
-    fn wuz_judge_starts(
-        rule: *const u8,
-        rule_len: usize,
-        word: *const u8,
-        word_len: usize,
-        limit: u64,
-        table: *mut u64,
-        table_len: usize,
-        list: *mut Start,
-        list_len: usize,
-        answer: *mut u64,
-        answer_len: usize,
-    ) -> u64;
-    fn wuz_run_leftmost(
-        job: *const u8,
-        job_len: usize,
-        out: *mut u8,
-        out_len: usize,
-        answer: *mut u64,
-        answer_len: usize,
-    ) -> u64;
 }
 
 /// Does a call on a small stack, in a thread with the case's name; gives what it returns.
@@ -168,15 +146,6 @@ fn run_here(call: Call<'_>) -> u64 {
             seconds,
             answer,
         } => merge_days(first, second, letters, seconds, answer),
-        Call::JudgeStarts {
-            rule,
-            word,
-            limit,
-            table,
-            list,
-            answer,
-        } => judge_starts(rule, word, limit, table, list, answer),
-        Call::RunLeftmost { job, out, answer } => run_leftmost(job, out, answer),
     }
 }
 
@@ -307,44 +276,6 @@ fn merge_days(
             letters.len(),
             seconds.as_mut_ptr(),
             seconds.len(),
-            answer.as_mut_ptr(),
-            answer.len(),
-        )
-    }
-}
-
-fn judge_starts(
-    rule: &[u8],
-    word: &[u8],
-    limit: u64,
-    table: &mut [u64],
-    list: &mut [Start],
-    answer: &mut [u64],
-) -> u64 {
-    unsafe {
-        wuz_judge_starts(
-            rule.as_ptr(),
-            rule.len(),
-            word.as_ptr(),
-            word.len(),
-            limit,
-            table.as_mut_ptr(),
-            table.len(),
-            list.as_mut_ptr(),
-            list.len(),
-            answer.as_mut_ptr(),
-            answer.len(),
-        )
-    }
-}
-
-fn run_leftmost(job: &[u8], out: &mut [u8], answer: &mut [u64]) -> u64 {
-    unsafe {
-        wuz_run_leftmost(
-            job.as_ptr(),
-            job.len(),
-            out.as_mut_ptr(),
-            out.len(),
             answer.as_mut_ptr(),
             answer.len(),
         )

@@ -1,18 +1,17 @@
-//! Random requests to the library: all ten calls, and buffers of every length about the need.
+//! Random requests to the library: all eight calls, and buffers of every length about the need.
 
 use super::call::{FILE_LINES, FILE_NODES, NODES};
+use super::edge_requests::text_length;
 use super::job_edges;
 use super::lent::Dirt;
 use super::mergings::{line_count, lines};
-use super::programs::Program;
 use super::random_jobs::{self, deeply_nested, LENGTHS};
 use super::random_rule_files;
 use super::request::{Asked, Request};
 use super::rewritings::rewritten_length;
 use super::rule_file_requests::FileCall;
-use super::start_requests;
 use crate::calls::Call;
-use crate::generate::{any_byte, change_byte, spoil_leaf};
+use crate::generate::{any_byte, change_byte};
 use crate::judge_edges::BAD_RULES;
 use crate::limits::{is_event, MAX_RULE_BYTES, MAX_SPECIAL, MAX_WORD};
 use crate::merge_edges::Pair;
@@ -20,8 +19,8 @@ use crate::random::Random;
 use crate::random_stars::repeat_stars;
 use crate::stars::with_single;
 use crate::stream::Case;
-use crate::{day_edges, random_calls, random_days, random_merges, random_rules, random_starts};
-use crate::{rule_edges, rule_file, rule_file_edges, starts, table};
+use crate::{day_edges, random_calls, random_days, random_merges, random_rules};
+use crate::{rule_edges, rule_file, rule_file_edges, table};
 
 /// The longest of the rule files on the edges that any draw starts from.
 const LONGEST_FILE: usize = 10_000;
@@ -31,7 +30,6 @@ pub struct Draws {
     rules: Vec<Vec<u8>>,
     days: Vec<Vec<u8>>,
     jobs: Vec<Vec<u8>>,
-    leftmost_jobs: Vec<Vec<u8>>,
     rule_files: Vec<Vec<u8>>,
 }
 
@@ -52,7 +50,6 @@ impl Draws {
             rules: rule_edges::texts(),
             days: day_edges::cases().into_iter().filter_map(day).collect(),
             jobs: job_edges::jobs(),
-            leftmost_jobs: job_edges::leftmost_jobs().collect(),
             rule_files: rule_file_edges::files()
                 .into_iter()
                 .filter(|file| file.len() <= LONGEST_FILE)
@@ -62,7 +59,7 @@ impl Draws {
 
     /// A random request.
     pub fn request(&self, random: &mut Random) -> Request {
-        let asked = match random.below(42) {
+        let asked = match random.below(34) {
             0..=4 => self.rule(random),
             5..=9 => self.day(random),
             10..=15 => judgement(random),
@@ -73,14 +70,9 @@ impl Draws {
             }
             22..=25 => self.rewriting(random),
             26..=29 => self.merging(random),
-            30..=33 => with_list(random),
-            34..=37 => {
-                let job = self.job(random, Program::Leftmost);
-                with_out(random, Program::Leftmost, job)
-            }
             _ => {
-                let job = self.job(random, Program::Checker);
-                with_out(random, Program::Checker, job)
+                let job = self.job(random);
+                with_out(random, job)
             }
         };
         lend(random, asked)
@@ -174,27 +166,12 @@ impl Draws {
         }
     }
 
-    /// A job for a program, an edge or near to one now and then.
-    pub fn job(&self, random: &mut Random, program: Program) -> Vec<u8> {
+    /// A job, an edge or near to one now and then.
+    pub fn job(&self, random: &mut Random) -> Vec<u8> {
         if random.one_in(8) {
-            return near_edge(random, &self.jobs);
-        }
-        match program {
-            Program::Checker => random_jobs::job(random),
-            Program::Leftmost => self.leftmost_job(random),
-        }
-    }
-
-    /// A job whose leftmost spans are listed, often one with much to list.
-    fn leftmost_job(&self, random: &mut Random) -> Vec<u8> {
-        match random.below(8) {
-            0 => near_edge(random, &self.leftmost_jobs),
-            1 | 2 => {
-                let (rule, word) = random_starts::rule_and_word(random);
-                job_edges::of_word(&rule, &word)
-            }
-            3 => job_edges::of_word(&bad_rule(random), b"ab"),
-            _ => random_jobs::job(random),
+            near_edge(random, &self.jobs)
+        } else {
+            random_jobs::job(random)
         }
     }
 }
@@ -233,21 +210,10 @@ fn judgement(random: &mut Random) -> Asked {
     }
 }
 
-/// A rule for one of the refusals, or one in which a leaf has become a bad set.
-fn bad_rule(random: &mut Random) -> Vec<u8> {
-    if random.one_in(4) {
-        let mut rule = random_calls::good_rule(random);
-        spoil_leaf(random, &mut rule, MAX_RULE_BYTES);
-        rule
-    } else {
-        random.pick(&BAD_RULES).to_vec()
-    }
-}
-
 /// A judge call whose rule is refused, and all else perhaps good.
 fn by_bad_rule(random: &mut Random) -> Asked {
     Asked::Judge {
-        rule: bad_rule(random),
+        rule: random.pick(&BAD_RULES).to_vec(),
         word: random.pick(&[&b""[..], b"ab", b"aB", b"a_"]).to_vec(),
         limit: random.pick(&[0, u64::MAX]),
         table: random.pick(&[0, table::need(0, 2), table::need(8, 2)]),
@@ -263,12 +229,6 @@ fn at_bounds(random: &mut Random) -> Asked {
     };
     let n = random.pick(&LENGTHS);
     let word = random_calls::word_of(random, &rule, n);
-    about_need(random, rule, word)
-}
-
-/// A judge call with a table and a limit about the need.
-fn about_need(random: &mut Random, rule: Vec<u8>, word: Vec<u8>) -> Asked {
-    let n = word.len();
     let (need, count) = if n > MAX_WORD {
         // Refused, with a table and a limit that would do.
         (table::need(MAX_SPECIAL, n), u64::MAX - 1)
@@ -282,35 +242,6 @@ fn about_need(random: &mut Random, rule: Vec<u8>, word: Vec<u8>) -> Asked {
         limit: random.pick(&[0, count - 1, count, count + 1, u64::MAX]),
         table: random.pick(&[need - 1, need, need + 5]),
     }
-}
-
-/// A judge call with a list of starts: mostly just enough records or more, else too few.
-pub fn with_list(random: &mut Random) -> Asked {
-    let judged = match random.below(12) {
-        0 => by_bad_rule(random),
-        1..=4 => {
-            let (rule, word) = random_starts::rule_and_word(random);
-            about_need(random, rule, word)
-        }
-        _ => judgement(random),
-    };
-    let Asked::Judge {
-        rule,
-        word,
-        limit,
-        table,
-    } = judged
-    else {
-        unreachable!("a word is judged");
-    };
-    let need = starts::need(word.len());
-    let list = match random.below(12) {
-        0 | 1 => need - 1,
-        2 => random.below(need),
-        3..=5 => need + 1 + random.below(5),
-        _ => need,
-    };
-    start_requests::with(&rule, &word, limit, table, list)
 }
 
 /// A rule file to judge: mostly on a short word, and with a table and a limit about the need.
@@ -343,10 +274,10 @@ fn with_word(random: &mut Random, file: Vec<u8>) -> Asked {
     call.with(table, limit)
 }
 
-/// A program's job with a buffer for its text: mostly enough, else one byte too few or none.
-pub fn with_out(random: &mut Random, program: Program, job: Vec<u8>) -> Asked {
-    let out = out_length(random, program.text_length(&job));
-    program.asked(job, out)
+/// A job with a buffer for its text: mostly enough, else one byte too few or none.
+pub fn with_out(random: &mut Random, job: Vec<u8>) -> Asked {
+    let out = out_length(random, text_length(&job));
+    Asked::Job { job, out }
 }
 
 /// The length of a buffer for a text of such a length.

@@ -27,8 +27,8 @@ pub fn run(call: Call<'_>) -> Option<u32> {
             limit,
             table,
             answer,
-        } => write_judgement(answer, || judge::judge(rule, word, limit, table)),
-        Call::RunJob { job, out, answer } => run_job(job, job::Report::lines, out, answer),
+        } => write_judgement(judge::judge, [rule, word], limit, table, answer),
+        Call::RunJob { job, out, answer } => run_job(job, out, answer),
         Call::ReadRuleFile {
             file,
             answer,
@@ -41,7 +41,7 @@ pub fn run(call: Call<'_>) -> Option<u32> {
             limit,
             table,
             answer,
-        } => write_judgement(answer, || judge::judge_file(file, word, limit, table)),
+        } => write_judgement(judge::judge_file, [file, word], limit, table, answer),
         Call::RewriteRule { text, out, answer } => rewrite_rule(text, out, answer),
         Call::MergeDays {
             first,
@@ -50,19 +50,6 @@ pub fn run(call: Call<'_>) -> Option<u32> {
             seconds,
             answer,
         } => merge_days([first, second], letters, seconds, answer),
-        Call::JudgeStarts {
-            rule,
-            word,
-            limit,
-            table,
-            list,
-            answer,
-        } => write_judgement(answer, || {
-            judge::judge_starts(rule, word, limit, table, list)
-        }),
-        Call::RunLeftmost { job, out, answer } => {
-            run_job(job, job::Report::leftmost_lines, out, answer)
-        }
     }
 }
 
@@ -174,32 +161,36 @@ fn answer_length(answer: &mut [u64], written: Result<usize, Refusal>) -> u32 {
     0
 }
 
-/// Lets one of the judges do its work if there is room for its answer, and writes that.
-fn write_judgement(answer: &mut [u64], judge: impl FnOnce() -> judge::Answer) -> Option<u32> {
+/// One of the two judges, of a rule text or of a rule file.
+type Judge = fn(&[u8], &[u8], u64, &mut [u64]) -> judge::Answer;
+
+/// Judges a word by a rule text or a rule file, and writes the table.
+fn write_judgement(
+    judge: Judge,
+    [by, word]: [&[u8]; 2],
+    limit: u64,
+    table: &mut [u64],
+    answer: &mut [u64],
+) -> Option<u32> {
     let answer = answer.get_mut(..Callee::Judge.answer_length())?;
     let judge::Answer {
         number,
         place,
         found,
         count,
-    } = judge();
+    } = judge(by, word, limit, table);
     answer.copy_from_slice(&[number.into(), place as u64, found, count]);
     Some(number)
 }
 
-/// Runs a job and writes its text, which is one of two.
-fn run_job(
-    job: &[u8],
-    text: fn(&job::Report) -> String,
-    out: &mut [u8],
-    answer: &mut [u64],
-) -> Option<u32> {
+/// Runs a job and writes its text.
+fn run_job(job: &[u8], out: &mut [u8], answer: &mut [u64]) -> Option<u32> {
     let answer = answer.get_mut(..Callee::RunJob.answer_length())?;
     let report = match job::judge_job(job) {
         Ok(report) => report,
         Err((number, place)) => return Some(refuse(answer, number, place)),
     };
-    let text = text(&report);
+    let text = report.lines();
     let Some(written) = out.get_mut(..text.len()) else {
         return Some(refuse(answer, Reason::BufferTooShort as u32, 0));
     };

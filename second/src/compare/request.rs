@@ -58,17 +58,6 @@ pub enum Asked {
         letters: usize,
         seconds: usize,
     },
-    Starts {
-        rule: Vec<u8>,
-        word: Vec<u8>,
-        limit: u64,
-        table: usize,
-        list: usize,
-    },
-    Leftmost {
-        job: Vec<u8>,
-        out: usize,
-    },
 }
 
 impl Asked {
@@ -113,8 +102,6 @@ impl Asked {
             Asked::JudgeFile { .. } => Callee::JudgeRuleFile,
             Asked::Rewriting { .. } => Callee::RewriteRule,
             Asked::Merging { .. } => Callee::MergeDays,
-            Asked::Starts { .. } => Callee::JudgeStarts,
-            Asked::Leftmost { .. } => Callee::RunLeftmost,
         }
     }
 }
@@ -153,9 +140,7 @@ impl fmt::Display for Asked {
                 write!(formatter, "rule {rule}, word {word}, ")?;
                 write!(formatter, "limit {limit}, table of {table}")
             }
-            Asked::Job { job, out } | Asked::Leftmost { job, out } => {
-                write!(formatter, "job {}, out of {out}", shown_bytes(job))
-            }
+            Asked::Job { job, out } => write!(formatter, "job {}, out of {out}", shown_bytes(job)),
             Asked::RuleFile { file, lines, nodes } => {
                 write!(formatter, "file {}, ", shown_bytes(file))?;
                 write!(formatter, "lines of {lines}, nodes of {nodes}")
@@ -181,17 +166,6 @@ impl fmt::Display for Asked {
                 let [first, second] = files.each_ref().map(|file| shown_bytes(file));
                 write!(formatter, "first {first}, second {second}, ")?;
                 write!(formatter, "letters of {letters}, seconds of {seconds}")
-            }
-            Asked::Starts {
-                rule,
-                word,
-                limit,
-                table,
-                list,
-            } => {
-                let (rule, word) = (shown_bytes(rule), shown_bytes(word));
-                write!(formatter, "rule {rule}, word {word}, ")?;
-                write!(formatter, "limit {limit}, table of {table}, list of {list}")
             }
         }
     }

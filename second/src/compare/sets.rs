@@ -24,9 +24,7 @@ impl Sets {
     /// What the cases of a callee have to show.
     pub fn of(callee: Callee) -> &'static [Sets] {
         match callee {
-            Callee::ReadDay | Callee::MergeDays | Callee::Troubled | Callee::LeftmostTroubled => {
-                &[]
-            }
+            Callee::ReadDay | Callee::MergeDays | Callee::Troubled => &[],
             _ => &[Sets::Brackets, Sets::Dot, Sets::BrokenBrackets],
         }
     }
@@ -46,8 +44,8 @@ impl fmt::Display for Sets {
 pub fn shown(asked: &Asked, number: u32, place: usize) -> Vec<Sets> {
     match asked {
         Asked::Rule { text, .. } | Asked::Rewriting { text, .. } => shown_by_rule(text, number),
-        Asked::Judge { rule, .. } | Asked::Starts { rule, .. } => shown_by_rule(rule, number),
-        Asked::Job { job, .. } | Asked::Leftmost { job, .. } => shown_by_job(job, number),
+        Asked::Judge { rule, .. } => shown_by_rule(rule, number),
+        Asked::Job { job, .. } => shown_by_job(job, number),
         Asked::RuleFile { file, .. } | Asked::JudgeFile { file, .. } => {
             shown_by_file(file, number, place)
         }

@@ -9,23 +9,23 @@ use std::io;
 use std::os::unix::process::ExitStatusExt;
 use std::process::ExitStatus;
 
-use super::call::Kind;
+use super::call::{Callee, Kind};
 use super::check::Checked;
 use super::job_edges;
 use super::lent::Difference;
 use super::program::{failed_run, output_difference};
-use super::programs::{Installed, Program};
 use super::request::shown_bytes;
 use super::running::Ended;
 use super::{troubled_input, troubled_output};
+use crate::job;
 use crate::limits::{MAX_DAY_LINES, MAX_JOB_BYTES};
 
 /// The signal that ends a program whose output nobody reads.
 const SIGPIPE: i32 = 13;
 
-/// A job whose beginnings up to any line's end are accepted jobs too, and the first event is listed:
-/// whoever takes a failure for the end of the input has something to print.
-const JOB: &[u8] = b"R\ta(ab)*&!(ba)\nE\t0\ta\nE\t7\ta\nE\t7\tb\nE\t89999\tb\n";
+/// A job whose beginnings up to any line's end are accepted jobs too: whoever takes a failure for
+/// the end of the input has something to print.
+const JOB: &[u8] = b"R\t(ab)*&!(ba)\nE\t0\ta\nE\t7\tb\nE\t7\ta\nE\t89999\tb\n";
 
 /// What happens.
 #[derive(Clone, Copy, Debug, PartialEq, Eq, PartialOrd, Ord)]
@@ -52,15 +52,11 @@ pub enum Trouble {
     /// Its writes end early, or with EINTR, where the program is stopped and continued.
     OutputInterruptedSocket,
     OutputInterruptedPipe,
-    /// There is no room for a byte before it is read, so even a short text has to wait; the program
-    /// is stopped and continued there.
-    OutputInterruptedFullSocket,
-    OutputInterruptedFullPipe,
 }
 
 impl Trouble {
     /// All that may happen.
-    pub const ALL: [Trouble; 17] = [
+    pub const ALL: [Trouble; 15] = [
         Trouble::InputDirectory,
         Trouble::InputNotForReading,
         Trouble::InputClosed,
@@ -76,28 +72,10 @@ impl Trouble {
         Trouble::OutputReadSlowly,
         Trouble::OutputInterruptedSocket,
         Trouble::OutputInterruptedPipe,
-        Trouble::OutputInterruptedFullSocket,
-        Trouble::OutputInterruptedFullPipe,
     ];
 
-    /// What needs a text that is longer than a pipe or a socket takes at once.
-    const OF_LONG_TEXTS: [Trouble; 3] = [
-        Trouble::OutputReadSlowly,
-        Trouble::OutputInterruptedSocket,
-        Trouble::OutputInterruptedPipe,
-    ];
-
-    /// All that may happen to a program; no leftmost listing is a long text.
-    pub fn of(program: Program) -> Vec<Trouble> {
-        let can_come = |trouble: &Trouble| match program {
-            Program::Checker => true,
-            Program::Leftmost => !Trouble::OF_LONG_TEXTS.contains(trouble),
-        };
-        Trouble::ALL.into_iter().filter(can_come).collect()
-    }
-
-    /// The bytes with which it is tried on a program, one case each.
-    fn inputs(self, program: Program) -> Vec<Vec<u8>> {
+    /// The bytes with which it is tried, one case each.
+    fn inputs(self) -> Vec<Vec<u8>> {
         match self {
             // There is nothing to be read.
             Trouble::InputDirectory | Trouble::InputNotForReading | Trouble::InputClosed => {
@@ -106,27 +84,23 @@ impl Trouble {
             Trouble::InputFails
             | Trouble::InputFailsLater
             | Trouble::InputOutOfTime
-            | Trouble::InputNotReady => beginnings(program),
+            | Trouble::InputNotReady => beginnings(),
             Trouble::InputFailsBeyond => vec![vec![b'\n'; MAX_JOB_BYTES], too_long()],
             Trouble::InputInterruptedSocket | Trouble::InputInterruptedPipe => {
-                vec![JOB.to_vec(), program.long_job()]
+                vec![JOB.to_vec(), long_list()]
             }
-            Trouble::OutputFull
-            | Trouble::OutputReadByNobody
-            | Trouble::OutputInterruptedFullSocket
-            | Trouble::OutputInterruptedFullPipe => {
-                vec![JOB.to_vec(), program.long_job(), Vec::new()]
+            Trouble::OutputFull | Trouble::OutputReadByNobody => {
+                vec![JOB.to_vec(), long_list(), Vec::new()]
             }
             Trouble::OutputReadSlowly
             | Trouble::OutputInterruptedSocket
-            | Trouble::OutputInterruptedPipe => vec![program.long_job()],
+            | Trouble::OutputInterruptedPipe => vec![long_list()],
         }
     }
 
-    /// What a program has to do on an input.
-    fn expected(self, program: Program, input: &[u8]) -> Ended {
-        let job = &input[..input.len().min(MAX_JOB_BYTES)];
-        let answer = || program.output(job).into_bytes();
+    /// What the program has to do on an input.
+    fn expected(self, input: &[u8]) -> Ended {
+        let answer = || job::output(&input[..input.len().min(MAX_JOB_BYTES)]).into_bytes();
         let (output, status) = match self {
             Trouble::InputDirectory
             | Trouble::InputNotForReading
@@ -142,9 +116,7 @@ impl Trouble {
             | Trouble::InputInterruptedPipe
             | Trouble::OutputReadSlowly
             | Trouble::OutputInterruptedSocket
-            | Trouble::OutputInterruptedPipe
-            | Trouble::OutputInterruptedFullSocket
-            | Trouble::OutputInterruptedFullPipe => (answer(), 0),
+            | Trouble::OutputInterruptedPipe => (answer(), 0),
         };
         let status = ExitStatus::from_raw(status);
         Ended { output, status }
@@ -168,12 +140,6 @@ impl Trouble {
             Trouble::OutputReadSlowly => troubled_output::read_slowly(program, input),
             Trouble::OutputInterruptedSocket => troubled_output::interrupted_socket(program, input),
             Trouble::OutputInterruptedPipe => troubled_output::interrupted_pipe(program, input),
-            Trouble::OutputInterruptedFullSocket => {
-                troubled_output::interrupted_full_socket(program, input)
-            }
-            Trouble::OutputInterruptedFullPipe => {
-                troubled_output::interrupted_full_pipe(program, input)
-            }
         }
     }
 }
@@ -196,15 +162,12 @@ impl fmt::Display for Trouble {
             Trouble::OutputReadSlowly => "output read slowly",
             Trouble::OutputInterruptedSocket => "output interrupted, a socket",
             Trouble::OutputInterruptedPipe => "output interrupted, a pipe",
-            Trouble::OutputInterruptedFullSocket => "output waited for, a socket",
-            Trouble::OutputInterruptedFullPipe => "output waited for, a pipe",
         })
     }
 }
 
-/// No bytes, the job up to each line's end, and the job up to the middle of a line; but for those on
-/// which a program that takes them for the whole job prints nothing either.
-fn beginnings(program: Program) -> Vec<Vec<u8>> {
+/// No bytes, the job up to each line's end, and the job up to the middle of a line.
+fn beginnings() -> Vec<Vec<u8>> {
     let lines = JOB.split_inclusive(|&byte| byte == b'\n');
     let mut beginnings = vec![Vec::new()];
     for line in lines {
@@ -212,8 +175,12 @@ fn beginnings(program: Program) -> Vec<Vec<u8>> {
         beginnings.push(longer);
     }
     beginnings.push(JOB[..JOB.len() - 3].to_vec());
-    beginnings.retain(|beginning| !program.output(beginning).is_empty());
     beginnings
+}
+
+/// A job whose text is about as long as there is: every span of 255 events obeys.
+fn long_list() -> Vec<u8> {
+    job_edges::job(b"!0", &b"E\t0\ta\n".repeat(MAX_DAY_LINES))
 }
 
 /// More bytes than are read.
@@ -234,26 +201,25 @@ impl fmt::Display for Case {
     }
 }
 
-/// All the cases of a program.
-pub fn cases(program: Program) -> Vec<Case> {
+/// All the cases.
+pub fn cases() -> Vec<Case> {
     let of = |trouble: Trouble| {
-        let inputs = trouble.inputs(program).into_iter();
+        let inputs = trouble.inputs().into_iter();
         inputs.map(move |input| Case { trouble, input })
     };
-    Trouble::of(program).into_iter().flat_map(of).collect()
+    Trouble::ALL.into_iter().flat_map(of).collect()
 }
 
 /// Runs the program in trouble, and compares what it does with what it has to do.
-pub fn check(installed: Installed, case: &Case) -> Checked {
-    let Installed { program, path } = installed;
-    let expected = case.trouble.expected(program, &case.input);
-    let difference = match case.trouble.run(path, &case.input) {
+pub fn check(program: &OsStr, case: &Case) -> Checked {
+    let expected = case.trouble.expected(&case.input);
+    let difference = match case.trouble.run(program, &case.input) {
         Ok(ended) => output_difference(&expected.output, &ended.output)
             .or_else(|| status_difference(expected.status, ended.status)),
         Err(failure) => Some(failed_run(failure)),
     };
     Checked {
-        callee: program.troubled(),
+        callee: Callee::Troubled,
         kind: Kind::Trouble(case.trouble),
         shown: Vec::new(),
         difference,

@@ -2,9 +2,8 @@
 
 use std::ffi::OsStr;
 use std::fs::OpenOptions;
-use std::io::{self, ErrorKind, PipeReader, PipeWriter, Read, Write};
-use std::os::fd::{AsRawFd, OwnedFd};
-use std::os::unix::fs::OpenOptionsExt;
+use std::io::{self, Read, Write};
+use std::os::fd::OwnedFd;
 use std::os::unix::net::UnixStream;
 use std::process::{Command, Stdio};
 use std::sync::mpsc::{self, Receiver};
@@ -16,9 +15,6 @@ use super::troubled_input::{LONG, TIMES};
 
 /// How many bytes a slow reader takes at once.
 const SIP: usize = 4_000;
-
-/// The flag by which nobody waits for room in what is opened; the standard library has no name for it.
-const O_NONBLOCK: i32 = 0o4000;
 
 /// How long a slow reader rests before it takes some more.
 const PAUSE: Duration = Duration::from_millis(1);
@@ -60,12 +56,7 @@ pub fn read_slowly(program: &OsStr, input: &[u8]) -> io::Result<Ended> {
     let (source, stdout) = io::pipe()?;
     let (begin, begun) = mpsc::channel();
     drop(begin);
-    let slowly = Slowly {
-        source,
-        begun,
-        filled: 0,
-    };
-    start(program, input, stdout, slowly)?.finish()
+    start(program, input, stdout, Slowly { source, begun })?.finish()
 }
 
 /// Its output is a socket with a time, whose writes end early or fail with EINTR after stop and
@@ -73,80 +64,24 @@ pub fn read_slowly(program: &OsStr, input: &[u8]) -> io::Result<Ended> {
 pub fn interrupted_socket(program: &OsStr, input: &[u8]) -> io::Result<Ended> {
     let (source, stdout) = UnixStream::pair()?;
     stdout.set_write_timeout(Some(LONG))?;
-    interrupted(program, input, OwnedFd::from(stdout), source, 0)
+    interrupted(program, input, OwnedFd::from(stdout), source)
 }
 
 /// Its output is a pipe, whose writes end early after stop and continue.
 pub fn interrupted_pipe(program: &OsStr, input: &[u8]) -> io::Result<Ended> {
     let (source, stdout) = io::pipe()?;
-    interrupted(program, input, stdout, source, 0)
+    interrupted(program, input, stdout, source)
 }
 
-/// Its output is a socket with a time that is full already, so that a short text has to wait, too,
-/// and its write fails with EINTR after stop and continue; a test of its own sees it.
-pub fn interrupted_full_socket(program: &OsStr, input: &[u8]) -> io::Result<Ended> {
-    let (source, stdout, filled) = full_socket()?;
-    interrupted(program, input, OwnedFd::from(stdout), source, filled)
-}
-
-/// Its output is a pipe that is full already, so that a short text has to wait, too.
-pub fn interrupted_full_pipe(program: &OsStr, input: &[u8]) -> io::Result<Ended> {
-    let (source, stdout, filled) = full_pipe()?;
-    interrupted(program, input, stdout, source, filled)
-}
-
-/// A socket to read from, one with a time to write to that has no room, and how much is in it.
-pub fn full_socket() -> io::Result<(UnixStream, UnixStream, u64)> {
-    let (source, stdout) = UnixStream::pair()?;
-    stdout.set_nonblocking(true)?;
-    let filled = fill(&stdout)?;
-    stdout.set_nonblocking(false)?;
-    stdout.set_write_timeout(Some(LONG))?;
-    Ok((source, stdout, filled))
-}
-
-/// A pipe's two ends, without room to write to, and how much is in it.
-pub fn full_pipe() -> io::Result<(PipeReader, PipeWriter, u64)> {
-    let (source, stdout) = io::pipe()?;
-    // Opened anew, so that whoever is given the pipe waits for room.
-    let path = format!("/proc/self/fd/{}", stdout.as_raw_fd());
-    let mut options = OpenOptions::new();
-    let again = options.write(true).custom_flags(O_NONBLOCK).open(path)?;
-    let filled = fill(&again)?;
-    Ok((source, stdout, filled))
-}
-
-/// Fills an output that does not wait until it has no room for a byte; gives how many it took.
-fn fill(mut output: impl Write) -> io::Result<u64> {
-    let mut filled = 0;
-    for size in [SIP, 1] {
-        loop {
-            match output.write(&vec![b'?'; size]) {
-                Ok(written) => filled += written as u64,
-                Err(error) if error.kind() == ErrorKind::WouldBlock => break,
-                Err(error) => return Err(error),
-            }
-        }
-    }
-    Ok(filled)
-}
-
-/// It is stopped and continued while nobody reads its output yet, and while it is read slowly; so
-/// many bytes are in it already.
+/// It is stopped and continued while nobody reads its output yet, and while it is read slowly.
 fn interrupted(
     program: &OsStr,
     input: &[u8],
     stdout: impl Into<Stdio>,
     source: impl Read + Send + 'static,
-    filled: u64,
 ) -> io::Result<Ended> {
     let (begin, begun) = mpsc::channel();
-    let slowly = Slowly {
-        source,
-        begun,
-        filled,
-    };
-    let mut running = start(program, input, stdout, slowly)?;
+    let mut running = start(program, input, stdout, Slowly { source, begun })?;
     running.interrupt(TIMES)?;
     drop(begin);
     running.interrupt(TIMES)?;
@@ -158,15 +93,11 @@ struct Slowly<R> {
     source: R,
     /// Nothing is ever sent: it begins where the other side is dropped.
     begun: Receiver<()>,
-    /// How many bytes come first that the program has not written.
-    filled: u64,
 }
 
 impl<R: Read> Read for Slowly<R> {
     fn read(&mut self, buffer: &mut [u8]) -> io::Result<usize> {
         let _ = self.begun.recv();
-        let filled = std::mem::take(&mut self.filled);
-        io::copy(&mut self.source.by_ref().take(filled), &mut io::sink())?;
         thread::sleep(PAUSE);
         let most = buffer.len().min(SIP);
         self.source.read(&mut buffer[..most])

@@ -5,7 +5,6 @@ use second::compare::check::check;
 use second::compare::lent::Dirt;
 use second::compare::reference;
 use second::compare::request::{shown_bytes, Asked, Request};
-use second::starts::Start;
 
 /// A rule file whose second line is `!(a)` after replacement.
 const TWO_LINES: &[u8] = b"R\tx\ta\nR\ty\t!<x>\n";
@@ -118,22 +117,6 @@ pub fn borrowed<'a>(call: &'a mut Call<'_>) -> Call<'a> {
             seconds,
             answer,
         },
-        Call::JudgeStarts {
-            rule,
-            word,
-            limit,
-            table,
-            list,
-            answer,
-        } => Call::JudgeStarts {
-            rule,
-            word,
-            limit: *limit,
-            table,
-            list,
-            answer,
-        },
-        Call::RunLeftmost { job, out, answer } => Call::RunLeftmost { job, out, answer },
     }
 }
 
@@ -147,9 +130,7 @@ pub fn answer<'a>(call: &'a mut Call<'_>) -> &'a mut [u64] {
         | Call::ReadRuleFile { answer, .. }
         | Call::JudgeRuleFile { answer, .. }
         | Call::RewriteRule { answer, .. }
-        | Call::MergeDays { answer, .. }
-        | Call::JudgeStarts { answer, .. }
-        | Call::RunLeftmost { answer, .. } => answer,
+        | Call::MergeDays { answer, .. } => answer,
     }
 }
 
@@ -224,28 +205,8 @@ fn merging(letters: usize, seconds: usize) -> Asked {
     }
 }
 
-/// Judges with a table of 16 needed numbers and 5 more, and a list of 2 needed records; the count is
-/// 7.
-fn starts(limit: u64, list: usize) -> Asked {
-    Asked::Starts {
-        rule: b"!a".to_vec(),
-        word: b"a".to_vec(),
-        limit,
-        table: 21,
-        list,
-    }
-}
-
-/// Lists the leftmost spans of a day with two that touch, in a text of 12 bytes.
-fn leftmost(out: usize) -> Asked {
-    Asked::Leftmost {
-        job: b"R\ta\nE\t0\ta\nE\t0\ta\n".to_vec(),
-        out,
-    }
-}
-
 /// One of each call, accepted.
-fn all() -> [Asked; 10] {
+fn all() -> [Asked; 8] {
     [
         rule(),
         day(3, 4),
@@ -255,8 +216,6 @@ fn all() -> [Asked; 10] {
         file_judgement(7),
         rewriting(9),
         merging(4, 6),
-        starts(7, 4),
-        leftmost(15),
     ]
 }
 
@@ -292,13 +251,6 @@ fn the_number_that_should_come_is_told() {
     assert_eq!(kind(merging(3, 3), 5), Kind::Number(0));
     assert_eq!(kind(merging(3, 2), 5), Kind::Number(15));
     assert_eq!(kind(merging(3, 3), 4), Kind::Unanswered);
-    assert_eq!(kind(starts(7, 2), 4), Kind::Number(0));
-    assert_eq!(kind(starts(6, 2), 4), Kind::Number(10));
-    assert_eq!(kind(starts(6, 1), 4), Kind::Number(23));
-    assert_eq!(kind(starts(7, 2), 3), Kind::Unanswered);
-    assert_eq!(kind(leftmost(12), 5), Kind::Number(0));
-    assert_eq!(kind(leftmost(11), 5), Kind::Number(15));
-    assert_eq!(kind(leftmost(12), 4), Kind::Unanswered);
 }
 
 #[test]
@@ -325,8 +277,6 @@ fn the_returned_number_is_compared() {
     calls.extend([file_judgement(7), file_judgement(6)]);
     calls.extend([rewriting(9), rewriting(7), rewriting(6)]);
     calls.extend([merging(4, 6), merging(2, 6)]);
-    calls.extend([starts(7, 4), starts(6, 2), starts(7, 1)]);
-    calls.extend([leftmost(15), leftmost(12), leftmost(11)]);
     let place = |asked: &Asked, answer, changed| place_of(asked.clone(), answer, |_| (), changed);
     let found = Some("the number returned".to_string());
     for asked in &calls {
@@ -385,8 +335,6 @@ fn every_buffer_is_compared_to_its_last_element() {
         Call::JudgeRuleFile { table, .. } => *table.last_mut().unwrap() ^= 1,
         Call::RewriteRule { out, .. } => *out.last_mut().unwrap() ^= 1,
         Call::MergeDays { letters, .. } => *letters.last_mut().unwrap() ^= 1,
-        Call::JudgeStarts { list, .. } => list.last_mut().unwrap().longest ^= 1,
-        Call::RunLeftmost { out, .. } => *out.last_mut().unwrap() ^= 1,
     };
     let places = [
         "nodes[129]",
@@ -397,8 +345,6 @@ fn every_buffer_is_compared_to_its_last_element() {
         "table[20]",
         "out[8]",
         "letters[3]",
-        "list[3]",
-        "out[14]",
     ];
     for (asked, expected) in all().into_iter().zip(places) {
         // With an answer that is long enough and with one that is not.
@@ -422,32 +368,6 @@ fn every_buffer_is_compared_to_its_last_element() {
         _ => unreachable!("days are merged"),
     });
     assert!(found.unwrap().starts_with("seconds[5]"));
-    let found = place(starts(7, 4), 4, |call| change_table(call, 20));
-    assert!(found.unwrap().starts_with("table[20]"));
-}
-
-#[test]
-fn every_part_of_a_record_is_compared() {
-    let mistakes: [Mistake; 3] = [
-        |call| first_record(call).spans ^= 1,
-        |call| first_record(call).shortest ^= 1,
-        |call| first_record(call).longest ^= 1,
-    ];
-    for mistake in mistakes {
-        // Accepted, cleared, and refused before the list is touched.
-        for asked in [starts(7, 2), starts(6, 2), starts(6, 1)] {
-            let found = place(asked, 4, mistake);
-            assert!(found.unwrap().starts_with("list[0], lent with a length of"));
-        }
-    }
-}
-
-/// The first record of a lent list.
-fn first_record<'a>(call: &'a mut Call<'_>) -> &'a mut Start {
-    match call {
-        Call::JudgeStarts { list, .. } => &mut list[0],
-        _ => unreachable!("starts are judged"),
-    }
 }
 
 #[test]
@@ -472,11 +392,6 @@ fn a_buffer_touched_on_a_refusal_is_found() {
         _ => unreachable!("days are merged"),
     });
     assert!(found.unwrap().starts_with("seconds[2]"));
-    let found = place(leftmost(11), 5, |call| match call {
-        Call::RunLeftmost { out, .. } => out[0] = b'S',
-        _ => unreachable!("leftmost spans are listed"),
-    });
-    assert!(found.unwrap().starts_with("out[0]"));
     // On 10 all of the needed numbers are 0, and no other changes.
     let mistakes: [(&str, Mistake); 3] = [
         ("table[0]", |call| change_table(call, 0)),
@@ -484,7 +399,7 @@ fn a_buffer_touched_on_a_refusal_is_found() {
         ("table[16]", |call| change_table(call, 16)),
     ];
     for (expected, mistake) in mistakes {
-        for asked in [judgement(6), file_judgement(6), starts(6, 3)] {
+        for asked in [judgement(6), file_judgement(6)] {
             let found = place(asked, 4, mistake);
             assert!(found.unwrap().starts_with(expected));
         }
@@ -494,9 +409,7 @@ fn a_buffer_touched_on_a_refusal_is_found() {
 /// Changes one bit of the table.
 fn change_table(call: &mut Call, at: usize) {
     match call {
-        Call::Judge { table, .. }
-        | Call::JudgeRuleFile { table, .. }
-        | Call::JudgeStarts { table, .. } => table[at] ^= 1,
+        Call::Judge { table, .. } | Call::JudgeRuleFile { table, .. } => table[at] ^= 1,
         _ => unreachable!("a word is judged"),
     }
 }

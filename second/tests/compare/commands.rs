@@ -3,12 +3,11 @@
 use second::compare::call::{Call, Callee, Kind};
 use second::compare::check::Checked;
 use second::compare::commands::{edges, jobs, library, Cases};
-use second::compare::programs::Program;
 use second::compare::reference;
 use second::compare::run::{Label, Run};
 use second::compare::trouble;
 
-use crate::scripts::{checker, leftmost, listing_leftmost, script, RIGHT};
+use crate::scripts::{script, RIGHT};
 
 const CASES: Cases = Cases {
     seed: 3,
@@ -91,11 +90,10 @@ fn all_edges_pass_and_give_every_number() {
 
 #[test]
 fn jobs_go_through_the_program_and_the_library() {
-    let path = script("right-jobs", RIGHT);
-    let program = checker(&path);
+    let program = &script("right-jobs", RIGHT);
     let command = "compare jobs checker";
     let (text, well) = printed(|output| jobs(&right, program, CASES, command, output));
-    let all = 60 + trouble::cases(Program::Checker).len();
+    let all = 60 + trouble::cases().len();
     assert_eq!(last_line(&text), format!("{all} passed, 0 failed"));
     assert!(well && text.contains("the program: 60 cases\n"));
     assert!(text.contains("wuz_run_job: 60 cases\n"));
@@ -103,8 +101,7 @@ fn jobs_go_through_the_program_and_the_library() {
     assert!(!well && text.contains("called:   wuz_run_job: job \""));
     // The first line of document 01's whole case alone is wrong.
     let changed = "SECOND | sed s/^H.1.2.1/h/";
-    let wrong = script("wrong-jobs", &RIGHT.replace("SECOND", changed));
-    let wrong = checker(&wrong);
+    let wrong = &script("wrong-jobs", &RIGHT.replace("SECOND", changed));
     let (text, well) = printed(|output| jobs(&right, wrong, CASES, command, output));
     assert!(!well && text.contains("called:   the program: input \""));
     assert!(text.contains("again:    compare jobs checker 3 1 1\n"));
@@ -113,41 +110,18 @@ fn jobs_go_through_the_program_and_the_library() {
 #[test]
 fn the_program_in_trouble_comes_with_any_jobs() {
     let none = Cases { count: 0, ..CASES };
-    let path = script("right-without-jobs", RIGHT);
-    let program = checker(&path);
+    let program = &script("right-without-jobs", RIGHT);
     let (text, well) = printed(|output| jobs(&right, program, none, "compare jobs", output));
-    let all = trouble::cases(Program::Checker).len();
+    let all = trouble::cases().len();
     assert!(text.starts_with(&format!("the program in trouble: {all} cases\n")));
     assert_eq!(last_line(&text), format!("{all} passed, 0 failed"));
     assert!(well);
-    let wrong = checker("/bin/false");
+    let wrong = "/bin/false".as_ref();
     let (text, well) = printed(|output| jobs(&right, wrong, CASES, "compare jobs", output));
     assert!(!well && text.contains("stopped after 10 differences"));
     assert!(text.contains("DIFFERENCE in case 1 of the program in trouble\n"));
     assert!(text.contains("called:   the program: input a directory; input \"\" (0 bytes)\n"));
     assert!(text.contains("again:    compare jobs 3 0\n"));
-}
-
-#[test]
-fn leftmost_listings_go_through_the_program_and_the_library() {
-    let path = script("right-leftmost", &listing_leftmost(RIGHT));
-    let (program, command) = (leftmost(&path), "compare leftmost program");
-    let (text, well) = printed(|output| jobs(&right, program, CASES, command, output));
-    let all = 60 + trouble::cases(Program::Leftmost).len();
-    assert_eq!(last_line(&text), format!("{all} passed, 0 failed"));
-    assert!(well && text.contains("the program leftmost: 60 cases\n"));
-    assert!(text.contains("the program leftmost in trouble: "));
-    assert!(text.contains("wuz_run_leftmost: 60 cases\n"));
-    assert!(!text.contains("wuz_run_job") && !text.contains("the program: "));
-    let few = Cases { count: 5, ..CASES };
-    let (text, well) = printed(|output| jobs(&idle, program, few, command, output));
-    assert!(!well && text.contains("called:   wuz_run_leftmost: job \""));
-    // The first span of the second case alone is wrong.
-    let changed = "SECOND leftmost | sed s/^S.3.4/s/";
-    let wrong = script("wrong-leftmost", &RIGHT.replace("SECOND", changed));
-    let (text, well) = printed(|output| jobs(&right, leftmost(&wrong), few, command, output));
-    assert!(!well && text.contains("called:   the program: input \""));
-    assert!(text.contains("again:    compare leftmost program 3 1 2\n"));
 }
 
 #[test]
@@ -182,5 +156,5 @@ fn a_trouble_that_never_came_is_a_failure() {
     assert!(!run.finish(&[Callee::Troubled.required()]).unwrap());
     let text = String::from_utf8(output).unwrap();
     assert!(text.contains("MISSING: the program in trouble never had input closed\n"));
-    assert_eq!(last_line(&text), "0 passed, 17 failed");
+    assert_eq!(last_line(&text), "0 passed, 15 failed");
 }

@@ -130,33 +130,6 @@ fn note_judge(bounds: &mut BTreeSet<String>, rule: &[u8], word: &[u8], limit: u6
     note(bounds, limit == count + 1, "limit above");
 }
 
-/// Notes the bounds of a judge call with a list of starts, but for those of the judge call.
-fn note_list(bounds: &mut BTreeSet<String>, word: &[u8], list: usize) {
-    let need = word.len() + 1;
-    note(bounds, list == 0, "list none");
-    note(bounds, list + 1 == need, "list short");
-    note(bounds, list == need, "list exact");
-    note(bounds, list > need, "list long");
-    for n in [0, 64, 255, 256] {
-        note(bounds, word.len() == n, format!("starts of {n}"));
-    }
-}
-
-/// Notes the bounds of a job whose leftmost spans are listed.
-fn note_leftmost(bounds: &mut BTreeSet<String>, bytes: &[u8], out: usize) {
-    match job::judge_job(bytes) {
-        Ok(report) => {
-            let text = report.leftmost_lines();
-            note_out(bounds, out, text.len(), "leftmost");
-            let lines = text.lines().count();
-            note(bounds, lines == 0, "nothing listed");
-            note(bounds, lines > 30, "much listed");
-            note(bounds, lines == 255, "all listed");
-        }
-        Err((number, _)) => note(bounds, true, format!("leftmost {number}")),
-    }
-}
-
 /// Notes the bounds of a job.
 fn note_job(bounds: &mut BTreeSet<String>, bytes: &[u8], out: usize) {
     note(bounds, bytes.len() > 2_809, "job beyond");
@@ -278,7 +251,7 @@ fn note_file_judge(
 #[test]
 fn every_bound_is_drawn() {
     let mut bounds = BTreeSet::new();
-    for request in requests(2, 7_800) {
+    for request in requests(2, 7_000) {
         note(&mut bounds, request.dirt == Dirt::Ones, "ones");
         note(&mut bounds, request.dirt != Dirt::Ones, "noise");
         let need = request.asked.callee().answer_length();
@@ -299,8 +272,6 @@ fn every_bound_is_drawn() {
             } if *limit < u64::MAX => note_judge(&mut bounds, rule, word, *limit, *table),
             Asked::Judge { .. } => note(&mut bounds, true, "limit highest"),
             Asked::Job { job, out } => note_job(&mut bounds, job, *out),
-            Asked::Starts { word, list, .. } => note_list(&mut bounds, word, *list),
-            Asked::Leftmost { job, out } => note_leftmost(&mut bounds, job, *out),
             Asked::RuleFile { file, lines, nodes } => {
                 note_file(&mut bounds, file);
                 note(&mut bounds, *lines < FILE_LINES, "lines short");
@@ -350,11 +321,7 @@ fn every_bound_is_drawn() {
         256 together;257 together;merged letters short;merged letters exact;merged letters long;\
         merged letters for one;merged seconds short;merged seconds exact;merged seconds long;\
         merged seconds for one;merged at 0;merged at 86399;merged at 86400;merged at 89999;\
-        event in both;list none;list short;list exact;list long;starts of 0;starts of 64;\
-        starts of 255;starts of 256;leftmost none;leftmost short;leftmost exact;leftmost long;\
-        nothing listed;much listed;all listed;leftmost 1;leftmost 2;leftmost 3;leftmost 4;\
-        leftmost 5;leftmost 6;leftmost 11;leftmost 12;leftmost 13;leftmost 14;leftmost 16;\
-        leftmost 20;leftmost 21";
+        event in both";
     for bound in expected.split(';') {
         assert!(bounds.contains(bound), "{bound} was not drawn");
     }

@@ -5,15 +5,11 @@ use second::compare::check::check;
 use second::compare::hours::{shown, Hours};
 use second::compare::lent::Dirt;
 use second::compare::program::{self, Input};
-use second::compare::programs::Program;
 use second::compare::random_requests::source;
 use second::compare::request::{Asked, Request};
 use second::compare::run::Run;
 
-use crate::scripts::{checker, leftmost, SECOND};
-
-/// Both programs.
-const PROGRAMS: [Program; 2] = [Program::Checker, Program::Leftmost];
+use crate::scripts::SECOND;
 
 /// A day to read.
 fn day(file: &[u8]) -> Asked {
@@ -25,13 +21,11 @@ fn day(file: &[u8]) -> Asked {
 }
 
 /// A job with that day.
-fn job(day: &[u8]) -> Vec<u8> {
-    [b"R\ta\n", day].concat()
-}
-
-/// That job, and that job with its leftmost spans listed.
-fn jobs(day: &[u8]) -> [Asked; 2] {
-    PROGRAMS.map(|program| program.asked(job(day), 99))
+fn job(day: &[u8]) -> Asked {
+    Asked::Job {
+        job: [b"R\ta\n", day].concat(),
+        out: 99,
+    }
 }
 
 /// That day merged with another, as the first file and as the second.
@@ -46,10 +40,10 @@ fn mergings(day: &[u8]) -> [Asked; 2] {
 
 /// What a day shows, alone, in a job and merged.
 fn of_day(file: &[u8], number: u32, place: usize) -> Option<Hours> {
-    let ([first, second], [all, leftmost]) = (mergings(file), jobs(file));
-    let all = [day(file), all, leftmost, first, second];
+    let [first, second] = mergings(file);
+    let all = [day(file), job(file), first, second];
     let [alone, others @ ..] = all.map(|asked| shown(&asked, number, place));
-    assert_eq!(others, [alone; 4]);
+    assert_eq!(others, [alone; 3]);
     alone
 }
 
@@ -96,10 +90,10 @@ fn other_calls_show_nothing() {
     assert_eq!(shown(&Asked::Job { job, out: 9 }, 16, 0), None);
 }
 
-/// The kinds of the hours that a compared day is counted as: alone, in a job, and by either program.
-fn counted(file: &[u8]) -> Vec<Vec<Kind>> {
-    let [listing_all, listing_leftmost] = jobs(file);
-    let by_calls = [day(file), listing_all, listing_leftmost].map(|asked| {
+/// The kinds that a compared day is counted as besides its number: alone, in a job, and by the
+/// program.
+fn counted(file: &[u8]) -> [Vec<Kind>; 3] {
+    let [alone, in_job] = [day(file), job(file)].map(|asked| {
         let request = Request {
             asked,
             answer: 5,
@@ -107,15 +101,9 @@ fn counted(file: &[u8]) -> Vec<Vec<Kind>> {
         };
         check(&|_, _| 0, "a case", &request).shown
     });
-    let input = Input::drawn(&mut source(1, 1), job(file));
-    // What is shown does not depend on what is printed.
-    let by_programs = [checker(SECOND), leftmost(SECOND)];
-    let by_programs = by_programs.map(|installed| program::check(installed, &input).shown);
-    let mut counted = [&by_calls[..], &by_programs].concat();
-    for kinds in &mut counted {
-        kinds.retain(|kind| matches!(kind, Kind::ShownHours(_)));
-    }
-    counted
+    let job = [b"R\ta\n", file].concat();
+    let input = Input::drawn(&mut source(1, 1), job);
+    [alone, in_job, program::check(SECOND.as_ref(), &input).shown]
 }
 
 #[test]
@@ -139,9 +127,7 @@ fn what_is_never_shown_is_a_failure() {
         Callee::ReadDay,
         Callee::RunJob,
         Callee::MergeDays,
-        Callee::RunLeftmost,
         Callee::Program,
-        Callee::LeftmostProgram,
     ];
     let mut output = Vec::new();
     let run = Run::new(&mut output);
@@ -158,5 +144,5 @@ fn what_is_never_shown_is_a_failure() {
     }
     let shown = |kind: &Kind| matches!(kind, Kind::ShownHours(_));
     let count = |callee: Callee| callee.kinds().iter().filter(|kind| shown(kind)).count();
-    assert_eq!(Callee::LIBRARY.map(count), [0, 2, 0, 2, 0, 0, 0, 2, 0, 2]);
+    assert_eq!(Callee::LIBRARY.map(count), [0, 2, 0, 2, 0, 0, 0, 2]);
 }

@@ -1,7 +1,6 @@
 //! Lent buffers: every element and every canary counts.
 
 use second::compare::lent::{first_different, shown_around, Dirt, Element, Lent, Side, CANARIES};
-use second::starts::Start;
 
 const DIRT: [Dirt; 2] = [Dirt::Ones, Dirt::Noise(7)];
 
@@ -18,10 +17,6 @@ fn an_untouched_buffer_does_not_differ() {
             assert_eq!(Lent::<u8>::dirty("bytes", length, dirt).difference(), None);
             assert_eq!(Lent::<u32>::dirty("u32", length, dirt).difference(), None);
             assert_eq!(Lent::<u64>::dirty("u64", length, dirt).difference(), None);
-            assert_eq!(
-                Lent::<Start>::dirty("list", length, dirt).difference(),
-                None
-            );
         }
         assert_eq!(Lent::holding("text", b"abc", dirt).difference(), None);
     }
@@ -43,8 +38,7 @@ fn every_changed_element_is_found() {
             assert_eq!(place, Some(expected));
             let bytes = place_of_change(Lent::dirty("out", 3, dirt), at, 0u8);
             let seconds = place_of_change(Lent::dirty("seconds", 3, dirt), at, 0u32);
-            let list = place_of_change(Lent::dirty("list", 3, dirt), at, Start::default());
-            assert!(bytes.is_some() && seconds.is_some() && list.is_some());
+            assert!(bytes.is_some() && seconds.is_some());
             // What is only read must not change either.
             assert!(place_of_change(Lent::holding("text", b"abc", dirt), at, b'!').is_some());
         }
@@ -86,9 +80,6 @@ fn dirt_is_nothing_that_a_call_writes() {
             .all(|&byte| byte > 127));
         let seconds = Lent::<u32>::dirty("seconds", 500, dirt).came;
         assert!(seconds.iter().all(|&second| second > 89_999));
-        let list = Lent::<Start>::dirty("list", 500, dirt).came;
-        let is_dirt = |start: &Start| start.spans.min(start.shortest).min(start.longest) > 256;
-        assert!(list.iter().all(is_dirt));
     }
     let table = |dirt| Lent::<u64>::dirty("table", 500, dirt).came;
     assert!(table(Dirt::Ones).iter().all(|&number| number == u64::MAX));
@@ -110,7 +101,5 @@ fn the_first_difference_is_shown_with_a_few_elements_around() {
     assert_eq!(shown_around(&numbers, 0), "[0] in [0, 1, 2, 3]..");
     assert_eq!(shown_around(&numbers, 19), "[19] in ..[16, 17, 18, 19]");
     assert_eq!(shown_around(b"S\t0\n", 4), "the end in \"S\\t0\\n\"");
-    let list = [Start::default(); 4];
-    assert_eq!(shown_around(&list, 0), "[0:0:0] in [0:0:0, 0:0:0, 0:0:0]..");
     assert_eq!(shown_around::<u8>(b"", 0), "the end in \"\"");
 }

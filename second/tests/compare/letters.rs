@@ -5,7 +5,6 @@ use std::collections::HashSet;
 use second::compare::call::{Callee, Kind};
 use second::compare::edge_requests::requests;
 use second::compare::letters::{shown, Letters};
-use second::compare::programs::Program;
 use second::compare::request::{Asked, Request};
 use second::compare::run::Run;
 use second::job::split_job;
@@ -37,7 +36,7 @@ fn of_day(file: &[u8], number: u32, place: usize) -> Vec<Letters> {
     day
 }
 
-/// What a judge call shows, without a list of starts and with one.
+/// What a judge call shows.
 fn of_judge(rule: &[u8], word: &[u8], number: u32, place: usize) -> Vec<Letters> {
     let judge = Asked::Judge {
         rule: rule.to_vec(),
@@ -45,16 +44,7 @@ fn of_judge(rule: &[u8], word: &[u8], number: u32, place: usize) -> Vec<Letters>
         limit: 9,
         table: 99,
     };
-    let starts = Asked::Starts {
-        rule: rule.to_vec(),
-        word: word.to_vec(),
-        limit: 9,
-        table: 99,
-        list: 9,
-    };
-    let [judge, starts] = [judge, starts].map(|asked| shown(&asked, number, place));
-    assert_eq!(judge, starts);
-    judge
+    shown(&judge, number, place)
 }
 
 /// What a rule file shows if it is read, and if a word is judged by it.
@@ -75,13 +65,10 @@ fn of_file(file: &[u8], number: u32, place: usize) -> Vec<Letters> {
     read
 }
 
-/// What a job shows, whichever spans are listed.
+/// What a job shows.
 fn of_job(job: &[u8], number: u32, place: usize) -> Vec<Letters> {
-    let programs = [Program::Checker, Program::Leftmost];
-    let asked = programs.map(|program| program.asked(job.to_vec(), 99));
-    let [all, leftmost] = asked.map(|asked| shown(&asked, number, place));
-    assert_eq!(all, leftmost);
-    all
+    let (job, out) = (job.to_vec(), 99);
+    shown(&Asked::Job { job, out }, number, place)
 }
 
 #[test]
@@ -170,8 +157,7 @@ fn what_is_never_shown_is_a_failure() {
     }
     let shown = |kind: &Kind| matches!(kind, Kind::Shown(_));
     let count = |callee: Callee| callee.kinds().iter().filter(|kind| shown(kind)).count();
-    assert_eq!(Callee::LIBRARY.map(count), [2, 2, 4, 4, 2, 4, 2, 2, 4, 4]);
-    assert_eq!(count(Callee::LeftmostProgram), 4);
+    assert_eq!(Callee::LIBRARY.map(count), [2, 2, 4, 4, 2, 4, 2, 2]);
 }
 
 /// Places in a rule, in a word and in a day; the question mark stands for the byte.
@@ -216,14 +202,8 @@ struct AllAsked {
     judged_rules: HashSet<Vec<u8>>,
     /// The words on which the judge is asked about a complement.
     judged_words: HashSet<Vec<u8>>,
-    /// Those of the calls with a list of starts.
-    start_rules: HashSet<Vec<u8>>,
-    start_words: HashSet<Vec<u8>>,
     job_rules: HashSet<Vec<u8>>,
     job_days: HashSet<Vec<u8>>,
-    /// Those of the calls that list the leftmost spans.
-    leftmost_rules: HashSet<Vec<u8>>,
-    leftmost_days: HashSet<Vec<u8>>,
     rule_files: HashSet<Vec<u8>>,
     judged_files: HashSet<Vec<u8>>,
     rewritten_rules: HashSet<Vec<u8>>,
@@ -246,18 +226,6 @@ impl AllAsked {
                 if let Ok((rule, day)) = split_job(&job) {
                     self.job_rules.insert(rule.to_vec());
                     self.job_days.insert(day.to_vec());
-                }
-            }
-            Asked::Starts { rule, word, .. } => {
-                if rule == b"!a" {
-                    self.start_words.insert(word);
-                }
-                self.start_rules.insert(rule);
-            }
-            Asked::Leftmost { job, .. } => {
-                if let Ok((rule, day)) = split_job(&job) {
-                    self.leftmost_rules.insert(rule.to_vec());
-                    self.leftmost_days.insert(day.to_vec());
                 }
             }
             Asked::RuleFile { file, .. } => drop(self.rule_files.insert(file)),
@@ -289,22 +257,18 @@ fn every_byte_is_asked_at_every_place() {
         for place in RULE_PLACES {
             check_asked(&asked.rules, place, byte);
             check_asked(&asked.judged_rules, place, byte);
-            check_asked(&asked.start_rules, place, byte);
             check_asked(&asked.rewritten_rules, place, byte);
             // A rule in a job ends at a newline.
             if byte != b'\n' {
                 check_asked(&asked.job_rules, place, byte);
-                check_asked(&asked.leftmost_rules, place, byte);
             }
         }
         for place in WORD_PLACES {
             check_asked(&asked.judged_words, place, byte);
-            check_asked(&asked.start_words, place, byte);
         }
         for place in DAY_PLACES {
             check_asked(&asked.days, place, byte);
             check_asked(&asked.job_days, place, byte);
-            check_asked(&asked.leftmost_days, place, byte);
             for days in &asked.merged_days {
                 check_asked(days, place, byte);
             }

@@ -1,15 +1,15 @@
 //! Programs that are run: the second program itself does not differ, others do.
 
 use second::compare::call::Kind;
-use second::compare::job_edges::{jobs, leftmost_jobs};
+use second::compare::job_edges::jobs;
 use second::compare::program::{check, Input};
 use second::compare::random_requests::source;
 
-use crate::scripts::{checker, leftmost, listing_leftmost, script, SECOND};
+use crate::scripts::SECOND;
 
 /// What is wrong with a program on an input, as it is printed; it has to be something.
 fn difference(program: &str, input: &Input) -> String {
-    let difference = check(checker(program), input).difference;
+    let difference = check(program.as_ref(), input).difference;
     difference
         .unwrap_or_else(|| panic!("{program} passed on {input}"))
         .to_string()
@@ -25,43 +25,16 @@ fn shell_difference(commands: &str) -> String {
 fn the_second_program_does_not_differ() {
     for (index, job) in jobs().into_iter().enumerate() {
         let input = Input::drawn(&mut source(1, index), job);
-        let checked = check(checker(SECOND), &input);
+        let checked = check(SECOND.as_ref(), &input);
         assert_eq!(checked.difference, None, "{input}");
     }
-}
-
-#[test]
-fn the_second_program_lists_the_leftmost_spans_as_it_should() {
-    let path = script("leftmost-edges", &listing_leftmost("exec SECOND"));
-    for (index, job) in leftmost_jobs().enumerate() {
-        let input = Input::drawn(&mut source(1, index), job);
-        let checked = check(leftmost(&path), &input);
-        assert_eq!(checked.difference, None, "{input}");
-    }
-}
-
-#[test]
-fn one_program_is_not_the_other() {
-    let input = |number: usize, job: &[u8]| Input::drawn(&mut source(5, number), job.to_vec());
-    let listing = script("leftmost-for-checker", &listing_leftmost("exec SECOND"));
-    let job = input(1, b"R\ta\nE\t0\ta\n");
-    assert!(check(leftmost(SECOND), &job).difference.is_some());
-    assert!(check(checker(&listing), &job).difference.is_some());
-    // Where nothing is listed, the one prints nothing at all and the other its heading.
-    let job = input(2, b"R\t1\nE\t0\ta\n");
-    assert!(check(leftmost(SECOND), &job).difference.is_some());
-    assert!(check(leftmost("/bin/true"), &job).difference.is_none());
-    // A refusal is the same line.
-    let job = input(3, b"R\ta**\n");
-    assert!(check(leftmost(SECOND), &job).difference.is_none());
-    assert!(check(checker(&listing), &job).difference.is_none());
 }
 
 #[test]
 fn the_number_is_the_jobs() {
     let kind = |job: &[u8]| {
         let input = Input::drawn(&mut source(2, 1), job.to_vec());
-        check(checker(SECOND), &input).kind
+        check(SECOND.as_ref(), &input).kind
     };
     assert_eq!(kind(b"R\t1\n"), Kind::Number(0));
     assert_eq!(kind(b"R\ta|\n"), Kind::Number(4));
@@ -73,7 +46,7 @@ fn the_number_is_the_jobs() {
 #[test]
 fn what_is_right_passes_whoever_prints_it() {
     let input = Input::drawn(&mut source(1, 1), br"printf 'X\t16\t0\n'".to_vec());
-    assert_eq!(check(checker("/bin/sh"), &input).difference, None);
+    assert_eq!(check("/bin/sh".as_ref(), &input).difference, None);
 }
 
 #[test]

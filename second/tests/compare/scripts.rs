@@ -1,10 +1,8 @@
 //! Programs that are shell scripts around the second program.
 
-use std::ffi::{OsStr, OsString};
+use std::ffi::OsString;
 use std::path::Path;
 use std::process::Command;
-
-use second::compare::programs::{Installed, Program};
 
 /// The second program, which is a program of document 01 too.
 pub const SECOND: &str = env!("CARGO_BIN_EXE_second");
@@ -15,23 +13,6 @@ pub const RIGHT: &str = "test -h /proc/$$/fd/0 || exit 0
 SECOND | cat 2> /dev/null
 test $? = 141 && kill -s PIPE $$
 exit 0";
-
-/// A program that should be document 01's.
-pub fn checker(path: &(impl AsRef<OsStr> + ?Sized)) -> Installed<'_> {
-    let (program, path) = (Program::Checker, path.as_ref());
-    Installed { program, path }
-}
-
-/// A program that should be `leftmost`.
-pub fn leftmost(path: &(impl AsRef<OsStr> + ?Sized)) -> Installed<'_> {
-    let (program, path) = (Program::Leftmost, path.as_ref());
-    Installed { program, path }
-}
-
-/// Commands that have the second program list the leftmost spans.
-pub fn listing_leftmost(commands: &str) -> String {
-    commands.replace("SECOND", "SECOND leftmost")
-}
 
 /// A program that does these commands, in which SECOND stands for the second program; no other test
 /// may use the name.

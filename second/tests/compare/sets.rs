@@ -5,22 +5,18 @@ use std::collections::HashSet;
 
 use second::compare::call::{Callee, Kind};
 use second::compare::edge_requests::pairs;
-use second::compare::programs::Program;
 use second::compare::request::Asked;
 use second::compare::run::Run;
 use second::compare::sets::{shown, Sets};
 
 /// All that read a rule and give what it says.
-pub const RULE_READERS: [Callee; 9] = [
+pub const RULE_READERS: [Callee; 6] = [
     Callee::ReadRule,
     Callee::Judge,
     Callee::RunJob,
     Callee::ReadRuleFile,
     Callee::JudgeRuleFile,
-    Callee::JudgeStarts,
-    Callee::RunLeftmost,
     Callee::Program,
-    Callee::LeftmostProgram,
 ];
 
 /// What a rule shows, in all calls that take it plainly.
@@ -36,22 +32,15 @@ fn of_rule(rule: &str, number: u32, place: usize) -> Vec<Sets> {
         limit: 9,
         table: 99,
     };
-    let starts = Asked::Starts {
-        rule: rule.clone(),
-        word: b"a.[".to_vec(),
-        limit: 9,
-        table: 99,
-        list: 9,
+    let job = Asked::Job {
+        job: [b"R\t", &rule[..], b"\nE\t0\t[\n"].concat(),
+        out: 99,
     };
-    let job = [b"R\t", &rule[..], b"\nE\t0\t[\n"].concat();
-    let programs = [Program::Checker, Program::Leftmost];
-    let [job, leftmost] = programs.map(|program| program.asked(job.clone(), 99));
     let rewriting = Asked::Rewriting {
         text: rule,
         out: 99,
     };
-    let all = [read, judged, starts, job, leftmost, rewriting];
-    let all = all.map(|asked| shown(&asked, number, place));
+    let all = [read, judged, job, rewriting].map(|asked| shown(&asked, number, place));
     let [read, others @ ..] = all;
     assert!(others.iter().all(|other| *other == read));
     read

@@ -1,18 +1,15 @@
 //! The program in trouble: what is made to happen does happen, and wrong programs are found.
 
+use std::ffi::OsStr;
 use std::io::{ErrorKind, Read, Write};
 use std::os::unix::process::ExitStatusExt;
 use std::process::Command;
-use std::thread;
-use std::time::Duration;
 
 use second::compare::call::Kind;
-use second::compare::programs::{Installed, Program};
 use second::compare::trouble::{cases, check, Trouble};
 use second::compare::troubled_input::failing_pair;
-use second::compare::troubled_output::{full_pipe, full_socket};
 
-use crate::scripts::{checker, leftmost, listing_leftmost, script, RIGHT, SECOND};
+use crate::scripts::{script, RIGHT, SECOND};
 
 /// The troubles in which the input fails, so that nothing may be printed.
 const FAILING: [Trouble; 7] = [
@@ -25,18 +22,10 @@ const FAILING: [Trouble; 7] = [
     Trouble::InputNotReady,
 ];
 
-/// The troubles with a text that is longer than a pipe takes at once.
-const LONG_OUTPUT: [Trouble; 3] = [
-    Trouble::OutputReadSlowly,
-    Trouble::OutputInterruptedSocket,
-    Trouble::OutputInterruptedPipe,
-];
-
 /// What is wrong with a program in each case of a trouble, as it is printed.
-fn differences(installed: Installed, trouble: Trouble) -> Vec<Option<String>> {
-    let cases = cases(installed.program).into_iter();
-    let cases = cases.filter(|case| case.trouble == trouble);
-    let checked = cases.map(|case| check(installed, &case));
+fn differences(program: impl AsRef<OsStr>, trouble: Trouble) -> Vec<Option<String>> {
+    let cases = cases().into_iter().filter(|case| case.trouble == trouble);
+    let checked = cases.map(|case| check(program.as_ref(), &case));
     let shown = checked.map(|checked| {
         assert_eq!(checked.kind, Kind::Trouble(trouble));
         checked.difference.map(|difference| difference.to_string())
@@ -45,15 +34,15 @@ fn differences(installed: Installed, trouble: Trouble) -> Vec<Option<String>> {
 }
 
 /// Checks that a program passes in every case of a trouble.
-fn check_passes(installed: Installed, trouble: Trouble) {
-    for difference in differences(installed, trouble) {
+fn check_passes(program: impl AsRef<OsStr>, trouble: Trouble) {
+    for difference in differences(program, trouble) {
         assert_eq!(difference, None, "{trouble}");
     }
 }
 
 /// Checks that a program fails in every case of a trouble, and that this is said.
-fn check_fails(installed: Installed, trouble: Trouble, said: &str) {
-    for difference in differences(installed, trouble) {
+fn check_fails(program: impl AsRef<OsStr>, trouble: Trouble, said: &str) {
+    for difference in differences(program, trouble) {
         let shown = difference.unwrap_or_else(|| panic!("it passed: {trouble}"));
         assert!(shown.contains(said), "{trouble}: {shown}");
     }
@@ -61,49 +50,9 @@ fn check_fails(installed: Installed, trouble: Trouble, said: &str) {
 
 #[test]
 fn every_trouble_comes() {
-    for program in [Program::Checker, Program::Leftmost] {
-        for trouble in Trouble::of(program) {
-            assert!(cases(program).iter().any(|case| case.trouble == trouble));
-        }
+    for trouble in Trouble::ALL {
+        assert!(cases().iter().any(|case| case.trouble == trouble));
     }
-    assert_eq!(Trouble::of(Program::Checker), Trouble::ALL);
-    let counts = [Program::Checker, Program::Leftmost].map(|program| cases(program).len());
-    assert_eq!(counts, [52, 45]);
-}
-
-#[test]
-fn no_leftmost_listing_is_a_long_text() {
-    let of_leftmost = Trouble::of(Program::Leftmost);
-    let left_out = Trouble::ALL
-        .into_iter()
-        .filter(|trouble| !of_leftmost.contains(trouble));
-    assert_eq!(left_out.collect::<Vec<_>>(), LONG_OUTPUT);
-    let job = Program::Leftmost.long_job();
-    let text = Program::Leftmost.output(&job);
-    // No listing has more than 255 spans, and these are the longest lines that they can have.
-    assert_eq!((text.lines().count(), text.len()), (255, 2_332));
-    assert!(Program::Checker.output(&Program::Checker.long_job()).len() > 300_000);
-}
-
-#[test]
-fn a_full_output_has_no_room_until_it_is_read() {
-    let (mut source, stdout, filled) = full_pipe().unwrap();
-    check_waits(&mut source, stdout, filled);
-    let (mut source, stdout, filled) = full_socket().unwrap();
-    check_waits(&mut source, stdout, filled);
-}
-
-/// Checks that a byte waits until what is in a full output has been read.
-fn check_waits(source: &mut impl Read, mut output: impl Write + Send, filled: u64) {
-    assert!(filled >= 4_096);
-    thread::scope(|scope| {
-        let writing = scope.spawn(move || output.write_all(b"S").unwrap());
-        thread::sleep(Duration::from_millis(50));
-        assert!(!writing.is_finished());
-        let mut read = Vec::new();
-        source.take(filled + 1).read_to_end(&mut read).unwrap();
-        assert!(read.ends_with(b"?S"));
-    });
 }
 
 #[test]
@@ -129,48 +78,29 @@ fn a_program_that_is_started_does_not_ignore_the_signal_of_a_broken_pipe() {
 
 #[test]
 fn the_second_program_keeps_all_promises_but_two() {
-    check_keeps_all_but_two(checker(SECOND));
-    let path = script("leftmost-in-trouble", &listing_leftmost("exec SECOND"));
-    check_keeps_all_but_two(leftmost(&path));
-}
-
-/// Checks that the second program does what it has to in every trouble but those two in which it
-/// cannot.
-fn check_keeps_all_but_two(second: Installed) {
-    for trouble in Trouble::of(second.program) {
+    for trouble in Trouble::ALL {
         match trouble {
-            Trouble::InputClosed => check_fails(second, trouble, r#""X" in "X\t16\t0\n""#),
-            Trouble::OutputReadByNobody => check_fails(second, trouble, "signal: 13 (SIGPIPE)"),
-            _ => check_passes(second, trouble),
+            Trouble::InputClosed => check_fails(SECOND, trouble, r#""X" in "X\t16\t0\n""#),
+            Trouble::OutputReadByNobody => check_fails(SECOND, trouble, "signal: 13 (SIGPIPE)"),
+            _ => check_passes(SECOND, trouble),
         }
     }
 }
 
 #[test]
 fn a_right_program_keeps_these_two() {
-    let paths = [
-        script("right-in-trouble", RIGHT),
-        script("right-leftmost-in-trouble", &listing_leftmost(RIGHT)),
-    ];
-    for program in [checker(&paths[0]), leftmost(&paths[1])] {
-        check_passes(program, Trouble::InputClosed);
-        check_passes(program, Trouble::OutputReadByNobody);
-    }
+    let program = script("right-in-trouble", RIGHT);
+    check_passes(&program, Trouble::InputClosed);
+    check_passes(&program, Trouble::OutputReadByNobody);
 }
 
 #[test]
 fn a_program_that_takes_a_failure_for_the_end_is_found() {
-    let commands = "cat 2> /dev/null | SECOND";
-    let paths = [
-        script("failure-is-end", commands),
-        script("leftmost-failure-is-end", &listing_leftmost(commands)),
-    ];
-    for program in [checker(&paths[0]), leftmost(&paths[1])] {
-        for trouble in FAILING {
-            check_fails(program, trouble, "byte 0 of the standard output");
-        }
-        check_passes(program, Trouble::InputInterruptedSocket);
+    let program = script("failure-is-end", "cat 2> /dev/null | SECOND");
+    for trouble in FAILING {
+        check_fails(&program, trouble, "byte 0 of the standard output");
     }
+    check_passes(&program, Trouble::InputInterruptedSocket);
 }
 
 #[test]
@@ -178,8 +108,8 @@ fn a_program_that_tells_a_failure_is_found() {
     let message = script("failure-message", "echo failed >&2");
     let status = script("failure-status", "exit 1");
     for trouble in FAILING {
-        check_fails(checker(&message), trouble, "byte 0 of the standard output");
-        check_fails(checker(&status), trouble, "exit status: 1");
+        check_fails(&message, trouble, "byte 0 of the standard output");
+        check_fails(&status, trouble, "exit status: 1");
     }
 }
 
@@ -191,21 +121,24 @@ fn a_program_that_gives_up_where_it_is_interrupted_is_found() {
         Trouble::InputInterruptedSocket,
         Trouble::InputInterruptedPipe,
     ] {
-        check_fails(checker(&program), trouble, "byte 0 of the standard output");
+        check_fails(&program, trouble, "byte 0 of the standard output");
     }
 }
 
 #[test]
 fn a_program_that_prints_only_what_a_pipe_takes_at_once_is_found() {
     let program = script("one-write", "SECOND | head -c 65536");
-    for trouble in LONG_OUTPUT {
-        let said = "byte 65536 of the standard output";
-        check_fails(checker(&program), trouble, said);
+    for trouble in [
+        Trouble::OutputReadSlowly,
+        Trouble::OutputInterruptedSocket,
+        Trouble::OutputInterruptedPipe,
+    ] {
+        check_fails(&program, trouble, "byte 65536 of the standard output");
     }
 }
 
 #[test]
 fn a_program_that_tells_that_its_output_is_full_is_found() {
     let program = script("full-status", "SECOND | cat 2> /dev/null");
-    check_fails(checker(&program), Trouble::OutputFull, "exit status: 1");
+    check_fails(&program, Trouble::OutputFull, "exit status: 1");
 }

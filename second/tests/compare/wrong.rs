@@ -5,10 +5,8 @@ use second::compare::call::{Call, Callee, Library};
 use second::compare::check::check;
 use second::compare::edge_requests::requests;
 use second::compare::job_edges;
-use second::compare::lent::Dirt;
 use second::compare::reference;
 use second::compare::request::{Asked, Request};
-use second::compare::start_requests;
 use second::job::split_job;
 use second::refusal::Refusal;
 use second::rule::{read, read_with_repeated_stars};
@@ -17,13 +15,11 @@ use crate::check::{answer, borrowed};
 use crate::rule_verdict::{rewriter_verdict, verdict, Wrong};
 
 /// The calls that take a plain rule.
-pub const PLAIN: [Callee; 6] = [
+pub const PLAIN: [Callee; 4] = [
     Callee::ReadRule,
     Callee::Judge,
     Callee::RunJob,
     Callee::RewriteRule,
-    Callee::JudgeStarts,
-    Callee::RunLeftmost,
 ];
 
 /// What a call is given to read, but for a job, which has two of these.
@@ -59,8 +55,6 @@ fn done_wrong(call: Call, mistake: Mistake) -> u64 {
         Call::JudgeRuleFile { file, word, .. } => (rules(file), text(word)),
         Call::RewriteRule { text: rule, .. } => (text(rule), Vec::new()),
         Call::MergeDays { first, second, .. } => (days(first), days(second)),
-        Call::JudgeStarts { rule, word, .. } => (text(rule), text(word)),
-        Call::RunLeftmost { job, .. } => (taken_job(job, mistake), Vec::new()),
     };
     let mut call = call;
     match &mut call {
@@ -76,8 +70,6 @@ fn done_wrong(call: Call, mistake: Mistake) -> u64 {
             second: other,
             ..
         } => (*one, *other) = (&first, &second),
-        Call::JudgeStarts { rule, word, .. } => (*rule, *word) = (&first, &second),
-        Call::RunLeftmost { job, .. } => *job = &first,
     }
     reference::returned(reference::run(call))
 }
@@ -88,22 +80,10 @@ pub fn short_edges() -> Vec<Request> {
     edges.filter(|request| length(request) < 40).collect()
 }
 
-/// The edges of request h) that a call has, by which any wrong list or listing has to be found.
-pub fn start_edges(callee: Callee) -> Vec<Request> {
-    let all = start_requests::varied_calls().chain(start_requests::calls());
-    let own = all.filter(|asked| asked.callee() == callee).enumerate();
-    own.map(|(turn, asked)| Request {
-        asked,
-        answer: callee.answer_length() + 2,
-        dirt: [Dirt::Ones, Dirt::Noise(1)][turn % 2],
-    })
-    .collect()
-}
-
 /// How many bytes a request gives to read.
 pub fn length(request: &Request) -> usize {
     match &request.asked {
-        Asked::Judge { word, .. } | Asked::JudgeFile { word, .. } | Asked::Starts { word, .. } => {
+        Asked::Judge { word, .. } | Asked::JudgeFile { word, .. } => {
             rules_of(request).len() + word.len()
         }
         Asked::Day { file, .. } => file.len(),
@@ -135,9 +115,7 @@ pub fn rules_of(request: &Request) -> &[u8] {
         | Asked::Job { job: bytes, .. }
         | Asked::RuleFile { file: bytes, .. }
         | Asked::JudgeFile { file: bytes, .. }
-        | Asked::Rewriting { text: bytes, .. }
-        | Asked::Starts { rule: bytes, .. }
-        | Asked::Leftmost { job: bytes, .. } => bytes,
+        | Asked::Rewriting { text: bytes, .. } => bytes,
         Asked::Day { .. } | Asked::Merging { .. } => b"",
     }
 }
@@ -146,8 +124,8 @@ pub fn rules_of(request: &Request) -> &[u8] {
 fn verdict_of(call: &Call, wrong: Wrong) -> Option<(u64, u64)> {
     match call {
         Call::ReadRule { text, .. } => Some(verdict(text, wrong)),
-        Call::Judge { rule, .. } | Call::JudgeStarts { rule, .. } => Some(verdict(rule, wrong)),
-        Call::RunJob { job, .. } | Call::RunLeftmost { job, .. } => {
+        Call::Judge { rule, .. } => Some(verdict(rule, wrong)),
+        Call::RunJob { job, .. } => {
             let (rule, _) = split_job(job).ok()?;
             Some(verdict(rule, wrong))
         }
@@ -164,7 +142,7 @@ pub fn with_verdict(mut call: Call, wrong: Wrong) -> u64 {
         Some(came) if number.is_some() && Some(came) != verdict_of(&call, Wrong::Nothing) => {
             let own = match call {
                 Call::ReadRule { .. } => Callee::ReadRule.answer_length(),
-                Call::Judge { .. } | Call::JudgeStarts { .. } => Callee::Judge.answer_length(),
+                Call::Judge { .. } => Callee::Judge.answer_length(),
                 _ => Callee::RunJob.answer_length(),
             };
             let answer = &mut answer(&mut call)[..own];

@@ -82,11 +82,9 @@ fn lost_by(call: &Call) -> u64 {
         | Call::ReadRuleFile { .. }
         | Call::RewriteRule { .. }
         | Call::MergeDays { .. } => 0,
-        Call::Judge { rule, word, .. } | Call::JudgeStarts { rule, word, .. } => {
-            lost(read(rule).unwrap(), word)
-        }
+        Call::Judge { rule, word, .. } => lost(read(rule).unwrap(), word),
         Call::JudgeRuleFile { file, word, .. } => lost(read_last(file).unwrap(), word),
-        Call::RunJob { job, .. } | Call::RunLeftmost { job, .. } => {
+        Call::RunJob { job, .. } => {
             let (rule, day) = split_job(job).unwrap();
             let mut letters = [0; MAX_DAY_LINES];
             let n = day::read(day, &mut letters, &mut [0; MAX_DAY_LINES]).unwrap();
@@ -158,12 +156,6 @@ fn the_edges_find_a_library_with_small_complements() {
     // Of three spans (0, 1) is lost, and of seven places one.
     assert_eq!(answer, [0, 0, 2, 6]);
     // Only the calls that do not judge cannot show it.
-    let judges = [
-        Callee::Judge,
-        Callee::RunJob,
-        Callee::JudgeRuleFile,
-        Callee::JudgeStarts,
-        Callee::RunLeftmost,
-    ];
+    let judges = [Callee::Judge, Callee::RunJob, Callee::JudgeRuleFile];
     assert_eq!(found(&short_edges(), &small_complements), judges);
 }

@@ -13,12 +13,7 @@ use crate::check::borrowed;
 use crate::wrong::{found, found_with, short_edges, taken_job, Part};
 
 /// The calls that read a day.
-const ALL: [Callee; 4] = [
-    Callee::ReadDay,
-    Callee::RunJob,
-    Callee::MergeDays,
-    Callee::RunLeftmost,
-];
+const ALL: [Callee; 3] = [Callee::ReadDay, Callee::RunJob, Callee::MergeDays];
 
 /// What a library does wrongly.
 #[derive(Debug)]

@@ -20,13 +20,7 @@ use crate::wrong::{check_verdicts, found_with, rules_of, with_verdict, PLAIN};
 const READERS: [Callee; 2] = [Callee::ReadRule, Callee::ReadRuleFile];
 
 /// The calls that judge.
-const JUDGES: [Callee; 5] = [
-    Callee::Judge,
-    Callee::RunJob,
-    Callee::JudgeRuleFile,
-    Callee::JudgeStarts,
-    Callee::RunLeftmost,
-];
+const JUDGES: [Callee; 3] = [Callee::Judge, Callee::RunJob, Callee::JudgeRuleFile];
 
 /// The edges with brackets or dots, but for long files.
 fn edges() -> &'static [Request] {
@@ -252,10 +246,8 @@ fn with_small_dots(text: &[u8]) -> Vec<u8> {
 fn judged() -> Vec<Request> {
     const SHORT: usize = 6;
     let is_good = |edge: &&Request| match &edge.asked {
-        Asked::Judge { rule, .. } | Asked::Starts { rule, .. } => {
-            rule.len() <= SHORT && read(rule).is_ok()
-        }
-        Asked::Job { job, .. } | Asked::Leftmost { job, .. } => {
+        Asked::Judge { rule, .. } => rule.len() <= SHORT && read(rule).is_ok(),
+        Asked::Job { job, .. } => {
             let rule = split_job(job).map_or(&b""[..], |(rule, _)| rule);
             rule.len() <= SHORT && read(rule).is_ok()
         }

@@ -13,13 +13,7 @@ use crate::rule_verdict::{verdict, Wrong};
 use crate::wrong::{check_verdicts, length, rules_of, with_verdict, PLAIN};
 
 /// The calls that refuse a star after a star in a plain rule.
-const REFUSING: [Callee; 5] = [
-    Callee::ReadRule,
-    Callee::Judge,
-    Callee::RunJob,
-    Callee::JudgeStarts,
-    Callee::RunLeftmost,
-];
+const REFUSING: [Callee; 3] = [Callee::ReadRule, Callee::Judge, Callee::RunJob];
 
 /// The call that rewrites.
 const REWRITER: [Callee; 1] = [Callee::RewriteRule];

@@ -1,11 +1,12 @@
 -- `list` writes the listing of a block, or answers 15. Assumes nothing.
 use Prim.Native.Nat.{ℕ}
 use native.Mathlib.Omega.{arith}
-use mathlib.Core.Path.{ap₂, ◌∙◌}
+use mathlib.Core.Path.{ap, ap₂, ◌∙◌}
 use mathlib.Core.List.{List}
 use borrow.Author.Rules.{rules}
-use Rattle.listing.specs.Marked.{listing}
-use Rattle.job.proofs.Texts.{text_stop, text_pass}
+use Rattle.verdict.specs.declared.Verdict.{Verdict}
+use Rattle.job.specs.JobAnswer.{refusal}
+use Rattle.job.proofs.Steps.{text_stop, text_pass}
 use Rattle.job.proofs.list.Statement.{statement}
 use Rattle.job.proofs.list.Tie as tie
 
@@ -14,11 +15,14 @@ list_spec =
     tie.close (tie.spec
     (λ c κs. search rules)
     (λ c κs. search rules)
+    (λ c κs. search rules)
     (λ c.
-    let a = c.before.before.before.before.before.args in
-    let l = c.before.before.text_length_lem.ensures in
+    let a = c.before.before.before.before.before.before.args in
+    let v = c.before.refusal.ensures in
+    let l = c.before.before.before.text_length_lem.ensures in
     c.refused.ensures a.out.now
-    ∙ text_stop a.heading.found a.heading.count (listing a.heading a.block.now) a.out.now (omega arith))
+    ∙ ap (λ (x : Verdict). refusal x.number x.place a.out.now) v
+    ∙ text_stop a.heading a.block.now a.out.now (omega arith))
     (λ c κs.
     let s = c.before.before.before.before.before in
     let l = c.before.before.text_length_lem.ensures in
@@ -29,4 +33,4 @@ list_spec =
     let l = c.before.before.before.before.before.text_length_lem.ensures in
     let w = c.before.before.write.ensures in
     ap₂ (λ (n : ℕ) (b : List ℕ). record { number = 0; place = 0; found = a.heading.found; count = a.heading.count; n = n; out = b }) l w
-    ∙ text_pass a.heading.found a.heading.count (listing a.heading a.block.now) a.out.now (omega arith)))
+    ∙ text_pass a.heading a.block.now a.out.now (omega arith)))

@@ -3,8 +3,6 @@ use Prim.Native.Nat.{◌<◌}
 use native.Mathlib.Omega.{arith}
 use lib.ListN.{length}
 use borrow.Author.Rules.{rules}
-use Rattle.job.specs.JobMeaning.{JobMeaning}
-use Rattle.job.specs.JobComputed.{job_answer}
 use Rattle.wuzlevor.proofs.ExportLaws.{job_returns, job_writes}
 use Rattle.wuzlevor.proofs.wuz_run_job.Statement.{statement}
 use Rattle.wuzlevor.proofs.wuz_run_job.Tie as tie
@@ -12,16 +10,12 @@ use Rattle.wuzlevor.proofs.wuz_run_job.Tie as tie
 pub wuz_run_job_spec : {M : Type 1} → statement M
 wuz_run_job_spec =
     tie.close (tie.spec
-    (λ c.
-    let a = c.before.before.before.before.args in
-    let h : length a.answer.now < 5 = omega arith in
-    job_returns JobMeaning (job_answer a.job.now a.out.now) h)
+    (λ c. let h : length c.before.before.before.before.args.answer.now < 5 = omega arith in job_returns h)
     (λ c κs. tt)
     (λ c κs. search rules)
     (λ c. search rules)
     (λ c. search rules)
     (λ c.
     let r = c.before.before.before.before.before.before in
-    let a = r.before.before.before.before.before.before.args in
-    job_writes JobMeaning (job_answer a.job.now a.out.now) r.run.result r.before.before.if1.false r.run.ensures.0 r.run.ensures.1
-    c.before.before.write-job.ensures))
+    job_writes r.run.result r.before.before.if1.false r.run.ensures.0 r.run.ensures.1
+    c.before.before.write-five.ensures))

@@ -1,0 +1,2 @@
+-- What a read or a write says of its buffer.
+mod TransferLaws
