@@ -1,4 +1,6 @@
 // Bits of 64-bit numbers, and of runs of them: bit p of a run is bit p % 64 of its number p / 64.
+#![tactic(auto)]
+
 ghost use Rattle.std.specs.Prelude.{◌≡◌, ◌++◌, ◌*◌, ◌/◌, ◌%◌, ◌^◌, ◌<◌, ◌≤◌, length, take, drop, replicate};
 ghost use Rattle.bits.specs.Bit.{has_bit, bit_at, ones_of};
 ghost use Rattle.bits.specs.Runs.{joined, Put, First, Merged};

@@ -1,4 +1,6 @@
 // Numbers as decimal text.
+#![tactic(auto)]
+
 ghost use Rattle.std.specs.Prelude.{◌≡◌, ◌++◌, ◌+◌, ◌-◌, ◌/◌, ◌%◌, ◌<◌, length, take, replicate};
 ghost use Rattle.decimal.specs.Numeral.{Numeral};
 ghost use Rattle.decimal.specs.Decimal.{decimal};

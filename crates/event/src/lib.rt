@@ -1,4 +1,6 @@
 // Events: the one test of the alphabet; sets of letters; and what the readers of texts share.
+#![tactic(auto)]
+
 pub mod sets;
 pub mod text;
 

@@ -1,4 +1,6 @@
 // What every answer carries, whichever call gives it.
+#![tactic(auto)]
+
 ghost use Rattle.std.specs.Prelude.{◌≡◌};
 ghost use Rattle.verdict.specs.Verdicts.{refused, accepted};
 

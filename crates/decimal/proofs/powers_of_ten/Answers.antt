@@ -5,8 +5,7 @@ use mathlib.Core.Path.{◌≡◌, refl, ap, subst⁻¹, ◌∙◌}
 use mathlib.Core.List.{List, [], ◌∷◌}
 use lib.ListN.{get_or}
 use Rattle.decimal.specs.Powers.{Powers}
-use Rattle.decimal.proofs.powers_of_ten.Statement.{statement}
-use Rattle.decimal.proofs.powers_of_ten.Tie as tie
+use Rattle.decimal.proofs.powers_of_ten.Goals as goal
 
 -- k powers of ten, from the exponent e on
 abbrev powers_from : ℕ → ℕ → List ℕ
@@ -24,5 +23,6 @@ powers h =
     subst⁻¹ Powers h
     (record { entry = λ i l. let s : 0 + i ≡ i = omega arith in entry_from 0 20 i l ∙ ap (λ (j : ℕ). 10 ^ j) s })
 
-pub powers_of_ten_spec : {M : Type 1} → statement M
-powers_of_ten_spec = tie.close (tie.spec (λ c. powers refl))
+pub returns : goal.returns
+returns c =
+    powers refl
