@@ -5,7 +5,7 @@ use crate::output::{print, print_decimal, print_number};
 use day::Outcome as DayOutcome;
 use event::sets;
 use event::sets::LetterSet;
-use regex::{Kind, Node};
+use expression::{Kind, Node};
 use verdict::Verdict;
 
 // The letters of a set, rising.

@@ -1,4 +1,6 @@
 // Day files: the reader that judges a file line by line and fills two lent buffers, letters and seconds.
+#![tactic(auto)]
+
 mod line;
 mod passes;
 

@@ -8,7 +8,7 @@ use lib.ListN.{length, length-map}
 use borrow.Author.Tests.{lt-ltb, le-ltb}
 use Rattle.bits.proofs.Digits.{below_or_not}
 use Rattle.event.specs.Event.{Word}
-use Rattle.regex.specs.Tree.{Tree}
+use Rattle.expression.specs.Tree.{Tree}
 use Rattle.day.specs.DayFile.{letter_of}
 use Rattle.work.specs.Count.{full_count}
 use Rattle.work.specs.TableComputed.{found}

@@ -8,13 +8,13 @@ use Rattle.event.specs.Event.{is_event}
 use Rattle.event.specs.Leading.{leading}
 use Rattle.event.specs.LetterSets.{holds, bit_of}
 use Rattle.event.specs.Text.{bytes}
-use Rattle.regex.specs.Accept.{accepts}
-use Rattle.regex.specs.Leaves.{leaf_at}
-use Rattle.regex.specs.Parse.{parse}
-use Rattle.regex.specs.Scan.{scan_from}
-use Rattle.regex.specs.TreeOf.{tree_of}
-use Rattle.regex.specs.OrderComputed.{unordered_from}
-use Rattle.regex.specs.StarsComputed.{double_from}
+use Rattle.expression.specs.Accept.{accepts}
+use Rattle.expression.specs.Leaves.{leaf_at}
+use Rattle.expression.specs.Parse.{parse}
+use Rattle.expression.specs.Scan.{scan_from}
+use Rattle.expression.specs.TreeOf.{tree_of}
+use Rattle.expression.specs.OrderComputed.{unordered_from}
+use Rattle.expression.specs.StarsComputed.{double_from}
 use Rattle.rule.specs.RuleComputed.{sentence_outcome, rule_answer}
 use Rattle.day.specs.DayLines.{line_of, day_lines}
 use Rattle.day.specs.DayComputed.{day_events, day_answer}

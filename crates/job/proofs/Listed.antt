@@ -6,7 +6,7 @@ use lib.ListN.{length, take}
 use lib.Seq.{take_at}
 use Rattle.event.specs.Event.{Word}
 use Rattle.event.proofs.Tests.{T_of, of_T}
-use Rattle.regex.specs.Tree.{Tree, size, specials}
+use Rattle.expression.specs.Tree.{Tree, size, specials}
 use Rattle.work.specs.Count.{full_count}
 use Rattle.work.specs.Span.{Obeys}
 use Rattle.work.specs.Spans.{Spans}

@@ -12,8 +12,8 @@ use borrow.Author.Tests.{eq-eqb, ne_eqb}
 use Rattle.decimal.specs.Decimal.{decimal}
 use Rattle.decimal.proofs.NumeralLaws.{decimal_few, decimal_three, decimal_length}
 use Rattle.event.specs.Event.{Word}
-use Rattle.regex.specs.Tree.{Tree, size, specials}
-use Rattle.regex.specs.Accept.{accepts}
+use Rattle.expression.specs.Tree.{Tree, size, specials}
+use Rattle.expression.specs.Accept.{accepts}
 use Rattle.rule.proofs.Rows as rule-rows
 use Rattle.day.proofs.Rows as day-rows
 use Rattle.work.specs.Count.{full_count}

@@ -10,7 +10,7 @@ use lib.Seq.{take_at}
 use borrow.Author.Tests.{ne_eqb}
 use Rattle.bits.proofs.Digits.{same_or_not}
 use Rattle.event.specs.Event.{Word}
-use Rattle.regex.specs.Tree.{Tree, size, specials}
+use Rattle.expression.specs.Tree.{Tree, size, specials}
 use Rattle.rule.specs.RuleAnswer as reader
 use Rattle.rule.specs.RuleComputed.{rule_answer}
 use Rattle.rule.specs.RuleMeaning.{Passed, RuleMeaning}

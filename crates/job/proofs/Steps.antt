@@ -7,7 +7,7 @@ use lib.Seq.{length-take-le}
 use types.Run.{OneOf, miss}
 use denote.Enum.Declared.{tag_of}
 use borrow.Author.Tests.{eqb-false, ne_eqb, lt-ltb, le-ltb}
-use Rattle.regex.specs.declared.Node.{Node}
+use Rattle.expression.specs.declared.Node.{Node}
 use Rattle.rule.specs.RuleAnswer as rule
 use Rattle.rule.specs.RuleAnswer.{RuleAnswer, rule_values}
 use Rattle.rule.specs.RuleComputed.{rule_answer}

@@ -1,7 +1,7 @@
 -- The text that the first block of a rule and a word gives. Assumes nothing.
 use Rattle.std.specs.Prelude.{List, ℕ, length}
 use Rattle.event.specs.Event.{Word}
-use Rattle.regex.specs.Tree.{Tree, size, specials}
+use Rattle.expression.specs.Tree.{Tree, size, specials}
 use Rattle.work.specs.Count.{full_count}
 use Rattle.work.specs.TableComputed.{block, found}
 use Rattle.listing.specs.declared.Heading.{Heading}

@@ -4,7 +4,7 @@
 use Rattle.std.specs.Prelude.{ℕ, ◌≤◌, ◌<◌, ◌≡◌, ◌↔◌, length, get_or}
 use mathlib.Core.List.{List, ◌∷◌, ◌++◌, map, Memᴰ}
 use Rattle.event.specs.Event.{Word}
-use Rattle.regex.specs.Tree.{Tree, size, specials}
+use Rattle.expression.specs.Tree.{Tree, size, specials}
 use Rattle.rule.specs.RuleAnswer as reader
 use Rattle.rule.specs.RuleMeaning.{Passed, RuleMeaning}
 use Rattle.day.specs.DayFile.{DayEvent, letter_of}

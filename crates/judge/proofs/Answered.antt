@@ -6,8 +6,8 @@ use lib.Dec.{eqb}
 use borrow.Author.Tests.{eqb-true, eqb-false}
 use Rattle.event.specs.Event.{Word}
 use Rattle.event.proofs.Tests.{choose}
-use Rattle.regex.specs.Tree.{Tree}
-use Rattle.regex.proofs.OneReading.{tree_is}
+use Rattle.expression.specs.Tree.{Tree}
+use Rattle.expression.proofs.OneReading.{tree_is}
 use Rattle.rule.specs.RuleComputed.{rule_answer}
 use Rattle.rule.specs.RuleMeaning.{RuleMeaning}
 use Rattle.rule.proofs.Answered as rule-answered

@@ -5,8 +5,8 @@ use mathlib.Core.List.{List}
 use lib.ListN.{length}
 use borrow.Author.Tests.{eq-eqb, ne_eqb}
 use Rattle.event.specs.Event.{Word}
-use Rattle.regex.specs.Tree.{Tree, specials}
-use Rattle.regex.proofs.OneReading.{tree_is}
+use Rattle.expression.specs.Tree.{Tree, specials}
+use Rattle.expression.proofs.OneReading.{tree_is}
 use Rattle.rule.specs.RuleAnswer as reader
 use Rattle.rule.specs.RuleAnswer.{RuleAnswer}
 use Rattle.rule.specs.RuleComputed.{rule_answer}

@@ -6,7 +6,7 @@ use mathlib.Core.Path.{◌≡◌, sym, ap, ap₂, subst, ◌∙◌}
 use mathlib.Core.List.{List, [], ◌∷◌, ◌++◌}
 use lib.ListN.{length-append}
 use Rattle.event.specs.Event.{Word}
-use Rattle.regex.specs.Tree.{Tree, empty}
+use Rattle.expression.specs.Tree.{Tree, empty}
 use Rattle.rule_line.specs.Lines.{Line}
 use Rattle.rule_file.specs.FileAnswer.{FileAnswer}
 use Rattle.rule_file.specs.FileMeaning.{Passed}

@@ -5,7 +5,7 @@ use mathlib.Core.Path.{◌≡◌, sym, ap, ◌∙◌}
 use mathlib.Core.List.{List, [], ◌∷◌, ◌++◌, Memᴰ}
 use lib.ListN.{length, length-append}
 use Rattle.event.specs.Event.{Word}
-use Rattle.regex.specs.Tree.{Tree}
+use Rattle.expression.specs.Tree.{Tree}
 use Rattle.rule_line.specs.Lines.{Line, line_nodes}
 use Rattle.rule_file.specs.FileAnswer.{FileAnswer, acceptance, file_values, refusal_verdict}
 use Rattle.rule_file.specs.FileMeaning.{Passed}

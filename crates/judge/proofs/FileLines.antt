@@ -5,7 +5,7 @@ use mathlib.Core.Path.{◌≡◌, refl, sym, ap, subst, ◌∙◌}
 use mathlib.Core.List.Memᴰ
 use mathlib.Core.List.{List, [], ◌∷◌, ◌++◌, map, Memᴰ}
 use lib.ListN.{length, get_or, length-append}
-use Rattle.regex.specs.Tree.{Tree}
+use Rattle.expression.specs.Tree.{Tree}
 use Rattle.work.specs.Table.{Rising}
 use Rattle.work.specs.TableComputed.{special_parts}
 use Rattle.work.proofs.Order.{parts_rising}

@@ -9,10 +9,10 @@ use mathlib.Core.Logic.{◌↔◌}
 use mathlib.Core.List.{List, [], ◌∷◌, ◌++◌, append-nil}
 use lib.ListN.{length, get_or}
 use Rattle.event.specs.Event.{Word}
-use Rattle.regex.specs.Tree.{Tree, empty, specials}
-use Rattle.regex.specs.Bytes.{is_start}
-use Rattle.regex.specs.Grammar.{Alt, Reads}
-use Rattle.regex.proofs.Texts.{begins, start_some}
+use Rattle.expression.specs.Tree.{Tree, empty, specials}
+use Rattle.expression.specs.Bytes.{is_start}
+use Rattle.expression.specs.Grammar.{Alt, Reads}
+use Rattle.expression.proofs.Texts.{begins, start_some}
 use Rattle.rule.specs.RuleMeaning as rule
 use Rattle.rule.proofs.ReadBytes.{read_listed}
 use Rattle.rule_line.specs.Lines.{Line}

@@ -4,8 +4,8 @@ use mathlib.Core.Path.{◌≡◌, refl, sym, ap, subst, ◌∙◌}
 use mathlib.Core.List.{List}
 use borrow.Author.Tests.{eq-eqb, ne_eqb}
 use Rattle.event.specs.Event.{Word}
-use Rattle.regex.specs.Tree.{Tree}
-use Rattle.regex.proofs.OneReading.{tree_is}
+use Rattle.expression.specs.Tree.{Tree}
+use Rattle.expression.proofs.OneReading.{tree_is}
 use Rattle.rule.specs.RuleAnswer.{RuleAnswer, rule_values, refusal_verdict}
 use Rattle.rule.specs.RuleComputed.{rule_answer}
 use Rattle.rule.specs.RuleMeaning.{RuleMeaning}

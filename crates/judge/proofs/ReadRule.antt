@@ -3,8 +3,8 @@ use Prim.Native.Nat.{ℕ, ◌-◌, ◌≤◌}
 use native.Mathlib.Omega.{arith}
 use mathlib.Core.Path.{◌≡◌, sym, subst}
 use mathlib.Core.List.{List, ◌++◌}
-use Rattle.regex.specs.Tree.{Tree, size, specials, records}
-use Rattle.regex.specs.declared.Node.{Node}
+use Rattle.expression.specs.Tree.{Tree, size, specials, records}
+use Rattle.expression.specs.declared.Node.{Node}
 use Rattle.rule.specs.RuleAnswer.{unused}
 use Rattle.work.specs.Table.{Rising}
 use Rattle.work.specs.TableComputed.{special_parts}

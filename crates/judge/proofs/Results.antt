@@ -9,9 +9,9 @@ use lib.ListN.{length}
 use borrow.Author.Tests.{eqb-true, eqb-false}
 use Rattle.event.specs.Event.{Word}
 use Rattle.event.proofs.Tests.{choose}
-use Rattle.regex.specs.Tree.{Tree, size, specials}
-use Rattle.regex.specs.TreeOf.{tree_of}
-use Rattle.regex.proofs.OneReading.{tree_is}
+use Rattle.expression.specs.Tree.{Tree, size, specials}
+use Rattle.expression.specs.TreeOf.{tree_of}
+use Rattle.expression.proofs.OneReading.{tree_is}
 use Rattle.rule.specs.RuleAnswer.{RuleAnswer}
 use Rattle.rule.specs.RuleComputed.{rule_answer}
 use Rattle.rule.specs.RuleMeaning.{Passed}

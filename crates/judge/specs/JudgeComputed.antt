@@ -2,7 +2,7 @@
 -- That it is the one answer which has `JudgeMeaning` is `answer_means` in proofs/Answered and `answer_is` in proofs/Determined.
 use Rattle.std.specs.Prelude.{ℕ, List, cond, eqb}
 use Rattle.event.specs.Event.{Word}
-use Rattle.regex.specs.TreeOf.{tree_of}
+use Rattle.expression.specs.TreeOf.{tree_of}
 use Rattle.rule.specs.RuleAnswer.{RuleAnswer}
 use Rattle.rule.specs.RuleComputed.{rule_answer}
 use Rattle.matcher.specs.MatchAnswer.{refusal}

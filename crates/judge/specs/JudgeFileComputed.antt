@@ -2,7 +2,7 @@
 -- That it is the one answer which has `JudgeFileMeaning` is `answer_means` and `answer_is` in proofs/FileAnswered.
 use Rattle.std.specs.Prelude.{ℕ, ◌-◌, List, [], ◌∷◌, get_or}
 use Rattle.event.specs.Event.{Word}
-use Rattle.regex.specs.Tree.{Tree, empty}
+use Rattle.expression.specs.Tree.{Tree, empty}
 use Rattle.rule_line.specs.Lines.{Line}
 use Rattle.rule_file.specs.FileAnswer.{FileAnswer}
 use Rattle.rule_file.specs.FileComputed.{FileRead, refused, passed, file_read}

@@ -3,7 +3,7 @@
 -- That `judge_answer` is the one answer which says so is `answer_means` in proofs/Answered and `answer_is` in proofs/Determined.
 use Rattle.std.specs.Prelude.{ℕ, List}
 use Rattle.event.specs.Event.{Word}
-use Rattle.regex.specs.Tree.{Tree}
+use Rattle.expression.specs.Tree.{Tree}
 use Rattle.rule.specs.RuleAnswer as reader
 use Rattle.rule.specs.RuleMeaning.{Passed, RuleMeaning}
 use Rattle.matcher.specs.MatchAnswer.{refusal}

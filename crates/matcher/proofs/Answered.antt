@@ -11,7 +11,7 @@ use borrow.Author.Tests.{ltb-true, ltb-false}
 use Rattle.event.specs.Event.{Word, is_event}
 use Rattle.event.proofs.LeadingLaws.{leading_found}
 use Rattle.event.proofs.Tests.{choose}
-use Rattle.regex.specs.Tree.{Tree, specials}
+use Rattle.expression.specs.Tree.{Tree, specials}
 use Rattle.work.specs.Count.{full_count}
 use Rattle.work.specs.Table.{need_of, block_length, Rising}
 use Rattle.work.specs.TableComputed.{special_parts, table}

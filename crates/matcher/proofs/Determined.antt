@@ -10,7 +10,7 @@ use Rattle.bits.specs.Bit.{ones_of}
 use Rattle.bits.proofs.Digits.{below_or_not}
 use Rattle.event.specs.Event.{Word, is_event}
 use Rattle.event.proofs.LeadingLaws.{leading_is}
-use Rattle.regex.specs.Tree.{Tree, specials}
+use Rattle.expression.specs.Tree.{Tree, specials}
 use Rattle.work.specs.Count.{full_count}
 use Rattle.work.specs.Walk.{Collection}
 use Rattle.work.specs.Table.{need_of, block_length, HoldsBlock, Rising}

@@ -5,7 +5,7 @@ use mathlib.Core.Path.{◌≡◌, refl, sym, ap, ◌∙◌}
 use mathlib.Core.List.{List}
 use lib.Dec.{eqb}
 use Rattle.event.specs.Event.{Word}
-use Rattle.regex.specs.Tree.{Tree, specials}
+use Rattle.expression.specs.Tree.{Tree, specials}
 use Rattle.matcher.specs.MatchAnswer.{refusal_verdict, told}
 use Rattle.matcher.specs.MatchComputed.{fit_answer, fit_values, limited, match_answer}
 use Rattle.matcher.specs.Given.{Fitting}

@@ -9,7 +9,7 @@ use lib.Seq.{take_at}
 use Rattle.bits.specs.Bit.{ones_of}
 use Rattle.bits.proofs.Digits.{below_or_not}
 use Rattle.event.specs.Event.{Word}
-use Rattle.regex.specs.Tree.{Tree, specials}
+use Rattle.expression.specs.Tree.{Tree, specials}
 use Rattle.work.specs.Count.{full_count}
 use Rattle.work.specs.Table.{block_length, need_of}
 use Rattle.work.specs.TableComputed.{block, blocks, special_parts, table, found}

@@ -12,7 +12,7 @@ use borrow.Author.Tests.{eqb-false, ltb-true}
 use Rattle.bits.proofs.Digits.{below_or_not}
 use Rattle.event.specs.Event.{Word}
 use Rattle.event.proofs.Tests.{choose}
-use Rattle.regex.specs.Tree.{Tree, size, specials}
+use Rattle.expression.specs.Tree.{Tree, size, specials}
 use Rattle.work.specs.Count.{full_count}
 use Rattle.work.specs.Walk.{Collection}
 use Rattle.work.specs.SizeOf.{SizeOf}

@@ -9,7 +9,7 @@ use lib.ListN.{length}
 use borrow.Author.Tests.{lt-ltb, le-ltb, ltb-false}
 use Rattle.event.specs.Event.{Word}
 use Rattle.event.proofs.Tests.{choose}
-use Rattle.regex.specs.Tree.{Tree, specials}
+use Rattle.expression.specs.Tree.{Tree, specials}
 use Rattle.work.specs.Count.{full_count}
 use Rattle.work.specs.Table.{block_length, need_of}
 use Rattle.matcher.specs.MatchComputed.{foreign_at, fit_answer, after_fit, spent, acceptance, limited, match_answer}

@@ -1,8 +1,8 @@
 -- What a caller gives: the records of a rule, and a word and a table that fit it. Assumes nothing.
 use Rattle.std.specs.Prelude.{ℕ, ◌≤◌, ◌≡◌, List, length}
 use Rattle.event.specs.Event.{Word}
-use Rattle.regex.specs.Tree.{Tree, specials}
-use Rattle.regex.specs.declared.Node.{Node}
+use Rattle.expression.specs.Tree.{Tree, specials}
+use Rattle.expression.specs.declared.Node.{Node}
 use Rattle.work.specs.Table.{need_of, Rising}
 use Rattle.work.specs.TableComputed.{special_parts}
 use Rattle.owners.specs.Filling.{Recorded}

@@ -3,7 +3,7 @@
 use Rattle.std.specs.Prelude.{ℕ, List, ◌++◌, cond, eqb, ltb, length, drop, replicate}
 use Rattle.event.specs.Event.{Word, is_event}
 use Rattle.event.specs.Leading.{leading}
-use Rattle.regex.specs.Tree.{Tree, specials}
+use Rattle.expression.specs.Tree.{Tree, specials}
 use Rattle.work.specs.Count.{full_count}
 use Rattle.work.specs.Table.{need_of}
 use Rattle.work.specs.TableComputed.{table, found}

@@ -6,7 +6,7 @@ use Rattle.std.specs.Prelude.{ℕ, ◌*◌, ◌^◌, ◌≤◌, ◌<◌, ◌≡�
 use mathlib.Core.List.{List, ◌∷◌, Memᴰ}
 use Rattle.bits.specs.Bit.{ones_of}
 use Rattle.event.specs.Event.{Word, is_event}
-use Rattle.regex.specs.Tree.{Tree, specials}
+use Rattle.expression.specs.Tree.{Tree, specials}
 use Rattle.work.specs.SizeOf.{SizeOf}
 use Rattle.work.specs.Table.{HoldsBlock, SpecialPart, Rising, block_length, need_of}
 use Rattle.work.specs.Walk.{Collection}

@@ -10,7 +10,7 @@ ghost use Rattle.matcher.specs.MatchComputed.{fit_values, fit_answer, limited, m
 ghost use Rattle.matcher.specs.MatchMeaning.{MatchMeaning};
 ghost use Rattle.matcher.specs.Given.{RuleRecords, Fitting};
 
-use regex::Node;
+use expression::Node;
 use verdict::Verdict;
 
 // The most events that a word may have.

@@ -17,7 +17,7 @@ use Rattle.event.specs.SetParts.{letter_at, NextIndex}
 use Rattle.event.specs.declared.sets.LetterSet.{LetterSet}
 use Rattle.event.proofs.SetLaws.{letter_index_lem, index_letter, holds_event, holds_at, holds_index}
 use Rattle.event.proofs.Tests.{T_of}
-use Rattle.regex.specs.declared.Kind.TheVariants.{Letter}
+use Rattle.expression.specs.declared.Kind.TheVariants.{Letter}
 use Rattle.moves.specs.Moves.{KindLetter}
 
 -- q is the bit of node i for a letter of the set whose index is below p

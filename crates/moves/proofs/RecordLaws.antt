@@ -10,9 +10,9 @@ use Rattle.bits.specs.Bit.{bit_at}
 use Rattle.bits.specs.Runs.{Put, Adds}
 use Rattle.bits.proofs.Digits.{below_or_not, same_or_not}
 use Rattle.bits.proofs.Laws.{put_adds, adds_none, adds_then, adds_as, zeros_bit}
-use Rattle.regex.specs.declared.Kind.{Kind}
-use Rattle.regex.specs.declared.Kind.TheVariants.{Empty, Epsilon, Letter, Union, Intersection, Concatenation, Complement, Star}
-use Rattle.regex.specs.declared.Node.{Node}
+use Rattle.expression.specs.declared.Kind.{Kind}
+use Rattle.expression.specs.declared.Kind.TheVariants.{Empty, Epsilon, Letter, Union, Intersection, Concatenation, Complement, Star}
+use Rattle.expression.specs.declared.Node.{Node}
 use Rattle.moves.specs.Moves.{kind_at, special_kind, NotFirst, SidesBefore, KindMove, RecordMove, fits_letter, KindLetter, LetterEntry}
 use Rattle.moves.specs.Moves.{KindSpecial, SpecialEntry}
 use Rattle.moves.specs.Closing.{LeaveBelow}

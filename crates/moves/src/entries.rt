@@ -2,12 +2,12 @@
 ghost use Rattle.std.specs.Prelude.{◌≡◌, ◌<◌, length};
 ghost use Rattle.bits.specs.Runs.{Adds};
 ghost use Rattle.event.specs.LetterSets.{every};
-ghost use Rattle.regex.specs.declared.Kind.TheVariants.{Letter};
+ghost use Rattle.expression.specs.declared.Kind.TheVariants.{Letter};
 ghost use Rattle.moves.specs.Moves.{KindLetter, KindSpecial};
 
 use crate::is_special;
 use event::sets::{EVERY, LetterSet};
-use regex::Kind;
+use expression::Kind;
 
 // Adds the entry of node i to those of each letter of a set.
 fn add_set(entries: &mut [u64], set: LetterSet, i: usize)

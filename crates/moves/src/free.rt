@@ -3,7 +3,7 @@ ghost use Rattle.std.specs.Prelude.{◌≡◌, ◌+◌, ◌*◌, ◌<◌, ◌≤
 ghost use Rattle.bits.specs.Runs.{Put, Adds};
 ghost use Rattle.moves.specs.Moves.{NotFirst, SidesBefore, KindMove, RecordMove, SidedMove};
 
-use regex::{Kind, Node};
+use expression::{Kind, Node};
 
 // Adds the move from state s to state t.
 fn link(moves: &mut [u64], s: usize, t: usize)

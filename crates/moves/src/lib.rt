@@ -10,7 +10,7 @@ ghost use Rattle.moves.specs.Moves.{special_kind, SidesBefore, ClosedMoves, Lett
 use closure::close;
 use entries::{add_letter, add_special};
 use free::add_moves;
-use regex::{Kind, Node};
+use expression::{Kind, Node};
 
 // Whether a walk passes a node of this kind by the span table alone.
 pub fn is_special(kind: Kind) -> bool

@@ -14,8 +14,8 @@ use Rattle.bits.specs.Runs.{indicator}
 use Rattle.bits.proofs.Digits.{below_or_not, same_or_not}
 use Rattle.event.specs.Event.{Word}
 use Rattle.event.proofs.Tests.{T_of, of_T}
-use Rattle.regex.specs.declared.Node.{Node}
-use Rattle.regex.specs.Tree.{Tree, empty, offset, below, size, is_special, specials}
+use Rattle.expression.specs.declared.Node.{Node}
+use Rattle.expression.specs.Tree.{Tree, empty, offset, below, size, is_special, specials}
 use Rattle.table.specs.Layout.{block_at, Lies}
 use Rattle.table.proofs.LayoutLaws.{number_part}
 use Rattle.work.specs.Table.{block_length, HoldsBlock, Rising}

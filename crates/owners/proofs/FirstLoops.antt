@@ -12,7 +12,7 @@ use lib.ListN.{length, get_or, set, replicate, length-set, get_or-replicate, get
 use lib.Seq.{get_or-set_same, get_or-set_other}
 use Rattle.bits.specs.Runs.{indicator}
 use Rattle.bits.proofs.Digits.{below_or_not, same_or_not}
-use Rattle.regex.specs.declared.Node.{Node}
+use Rattle.expression.specs.declared.Node.{Node}
 use Rattle.moves.specs.Moves.{kind_at, special_kind}
 use Rattle.walk.specs.Filled.{sum_below}
 use Rattle.work.specs.Table.{block_length}

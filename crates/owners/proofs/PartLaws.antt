@@ -7,12 +7,12 @@ use native.Mathlib.Omega.{arith}
 use lib.ListN.{length, get_or, length-map, length-append, get_or-append, get_or-map}
 use lib.Seq.{get_or-append-add, get_or_at}
 use Rattle.bits.proofs.Digits.{below_or_not}
-use Rattle.regex.specs.declared.Kind.{Kind}
-use Rattle.regex.specs.declared.Kind.TheVariants.{Empty, Epsilon, Letter, Union, Intersection, Concatenation, Complement, Star}
-use Rattle.regex.specs.declared.Node.{Node}
-use Rattle.regex.specs.Tree.{Tree, empty, epsilon, letter, union, intersection, concatenation, complement, star, offset, below, size}
-use Rattle.regex.specs.Tree.{is_special, records}
-use Rattle.regex.proofs.RecordLaws.{records_length}
+use Rattle.expression.specs.declared.Kind.{Kind}
+use Rattle.expression.specs.declared.Kind.TheVariants.{Empty, Epsilon, Letter, Union, Intersection, Concatenation, Complement, Star}
+use Rattle.expression.specs.declared.Node.{Node}
+use Rattle.expression.specs.Tree.{Tree, empty, epsilon, letter, union, intersection, concatenation, complement, star, offset, below, size}
+use Rattle.expression.specs.Tree.{is_special, records}
+use Rattle.expression.proofs.RecordLaws.{records_length}
 use Rattle.moves.specs.Moves.{no_node, kind_at, special_kind}
 use Rattle.work.specs.Walk.{Part, itself, union_left, union_right, intersection_left, intersection_right, concatenation_left}
 use Rattle.work.specs.Walk.{concatenation_right}

@@ -3,11 +3,11 @@ use mathlib.Core.Path.{◌≡◌, refl, sym, ap, ◌∙◌}
 use mathlib.Core.List.{List, [], ◌∷◌, ◌++◌, append_assoc, append-nil}
 use Prim.Native.Nat.{ℕ}
 use lib.Seq.{take_at}
-use Rattle.regex.specs.declared.Kind.TheVariants.{Union, Intersection, Concatenation, Complement, Star}
-use Rattle.regex.specs.declared.Node.{Node}
-use Rattle.regex.specs.Tree.{Tree, empty, epsilon, letter, union, intersection, concatenation, complement, star, node_record, records}
-use Rattle.regex.specs.TreeOf.{top}
-use Rattle.regex.proofs.RecordLaws.{records_length}
+use Rattle.expression.specs.declared.Kind.TheVariants.{Union, Intersection, Concatenation, Complement, Star}
+use Rattle.expression.specs.declared.Node.{Node}
+use Rattle.expression.specs.Tree.{Tree, empty, epsilon, letter, union, intersection, concatenation, complement, star, node_record, records}
+use Rattle.expression.specs.TreeOf.{top}
+use Rattle.expression.proofs.RecordLaws.{records_length}
 use Rattle.owners.specs.Filling.{rebuilt, tree_from, Recorded}
 
 regroup : (a b c d : List Node) → a ++ b ++ c ++ d ≡ a ++ (b ++ (c ++ d))

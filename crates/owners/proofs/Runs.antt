@@ -7,7 +7,7 @@ use lib.ListN.{length, take, drop, replicate, length-append, length-replicate, r
 use lib.Seq.{take_all, take_at, drop_at}
 use borrow.Rule.Slice.PartMut.{mid_of, put_mid}
 use Rattle.bits.specs.Runs.{Adds}
-use Rattle.regex.specs.declared.Node.{Node}
+use Rattle.expression.specs.declared.Node.{Node}
 use Rattle.levels.specs.AutomatonParts.{closed_part, letter_part, special_part, first_part}
 use Rattle.moves.specs.Moves.{ClosedMoves, LetterEntry, SpecialEntry}
 use Rattle.owners.specs.Blocks.{FirstNumbers}

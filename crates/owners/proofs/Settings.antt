@@ -8,10 +8,10 @@ use lib.ListN.{length, get_or, drop, replicate, length-drop}
 use lib.Seq.{length-take-le, get_or-take, get_or-drop, drop-length}
 use Rattle.bits.specs.Runs.{Small}
 use Rattle.event.specs.Event.{Word}
-use Rattle.regex.specs.declared.Kind.{Kind}
-use Rattle.regex.specs.declared.Kind.TheVariants.{Empty, Epsilon, Letter, Union, Intersection, Concatenation, Complement, Star}
-use Rattle.regex.specs.declared.Node.{Node}
-use Rattle.regex.specs.Tree.{Tree}
+use Rattle.expression.specs.declared.Kind.{Kind}
+use Rattle.expression.specs.declared.Kind.TheVariants.{Empty, Epsilon, Letter, Union, Intersection, Concatenation, Complement, Star}
+use Rattle.expression.specs.declared.Node.{Node}
+use Rattle.expression.specs.Tree.{Tree}
 use Rattle.moves.specs.Reached.{start}
 use Rattle.moves.specs.Moves.{kind_at, special_kind, NotFirst}
 use Rattle.moves.proofs.Paths.{leads_on}

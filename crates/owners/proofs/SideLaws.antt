@@ -7,8 +7,8 @@ use native.Mathlib.Omega.{arith}
 use lib.ListN.{length, get_or, set, replicate, length-set}
 use lib.Seq.{get_or-set_same, get_or-set_other}
 use Rattle.bits.proofs.Digits.{same_or_not}
-use Rattle.regex.specs.declared.Node.{Node}
-use Rattle.regex.specs.Tree.{Tree, empty, epsilon, letter, union, intersection, concatenation, complement, star, below, size}
+use Rattle.expression.specs.declared.Node.{Node}
+use Rattle.expression.specs.Tree.{Tree, empty, epsilon, letter, union, intersection, concatenation, complement, star, below, size}
 use Rattle.moves.specs.Moves.{kind_at, NotFirst, SidesBefore}
 use Rattle.work.specs.Walk.{Part, itself, union_left, union_right, intersection_left, intersection_right, concatenation_left}
 use Rattle.work.specs.Walk.{concatenation_right}

@@ -5,7 +5,7 @@ use Prim.Native.Nat.{ℕ, zero, suc, ◌≤◌}
 use lib.ListN.{length, take, drop}
 use lib.Seq.{slice}
 use Rattle.event.specs.Event.{Word, Events}
-use Rattle.regex.specs.Tree.{Tree, intersection, complement}
+use Rattle.expression.specs.Tree.{Tree, intersection, complement}
 use Rattle.work.specs.Span.{Obeys}
 use Rattle.work.specs.Walk.{exit}
 use Rattle.work.proofs.TreeWalk.{TreeWalk}

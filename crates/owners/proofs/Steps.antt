@@ -12,9 +12,9 @@ use Rattle.bits.specs.Runs.{Adds}
 use Rattle.bits.proofs.Laws.{zeros_bit}
 use Rattle.event.specs.declared.sets.LetterSet.{LetterSet}
 use Rattle.event.proofs.Tests.{T_of, of_T}
-use Rattle.regex.specs.declared.Kind.{Kind}
-use Rattle.regex.specs.declared.Node.{Node}
-use Rattle.regex.specs.Tree.{Tree, empty, epsilon, letter, union, intersection, concatenation, complement, star, below, is_special}
+use Rattle.expression.specs.declared.Kind.{Kind}
+use Rattle.expression.specs.declared.Node.{Node}
+use Rattle.expression.specs.Tree.{Tree, empty, epsilon, letter, union, intersection, concatenation, complement, star, below, is_special}
 use Rattle.moves.specs.Reached.{start, after}
 use Rattle.moves.specs.Moves.{kind_at, special_kind, KindMove, RecordMove, FreeMove, fits_letter}
 use Rattle.table.proofs.LayoutLaws.{held_span}

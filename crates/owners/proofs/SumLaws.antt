@@ -13,8 +13,8 @@ use lib.ListN.{length, get_or}
 use Rattle.bits.specs.Runs.{indicator}
 use Rattle.bits.proofs.Digits.{same_or_not}
 use Rattle.event.specs.Event.{Word}
-use Rattle.regex.specs.declared.Node.{Node}
-use Rattle.regex.specs.Tree.{Tree, empty, epsilon, letter, union, intersection, concatenation, complement, star, offset, size, is_special}
+use Rattle.expression.specs.declared.Node.{Node}
+use Rattle.expression.specs.Tree.{Tree, empty, epsilon, letter, union, intersection, concatenation, complement, star, offset, size, is_special}
 use Rattle.moves.specs.Moves.{kind_at, special_kind}
 use Rattle.walk.specs.Filled.{sum_below}
 use Rattle.work.specs.Count.{special_walks}

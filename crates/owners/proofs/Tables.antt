@@ -8,8 +8,8 @@ use lib.ListN.{length, take, drop, length-drop, take-append-drop}
 use lib.Seq.{take_all}
 use Rattle.bits.specs.Runs.{Small}
 use Rattle.event.specs.Event.{Word}
-use Rattle.regex.specs.declared.Node.{Node}
-use Rattle.regex.specs.Tree.{Tree, empty, specials}
+use Rattle.expression.specs.declared.Node.{Node}
+use Rattle.expression.specs.Tree.{Tree, empty, specials}
 use Rattle.table.proofs.LayoutLaws.{number_part, number_same, held_numbers, held_blocks}
 use Rattle.work.specs.Table.{block_length, need_of}
 use Rattle.work.specs.TableComputed.{special_parts, table}

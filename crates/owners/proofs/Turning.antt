@@ -11,8 +11,8 @@ use Rattle.bits.specs.Bit.{bit_at}
 use Rattle.bits.proofs.Digits.{below_or_not}
 use Rattle.event.proofs.Tests.{T_of, of_T}
 use Rattle.event.specs.Event.{Word}
-use Rattle.regex.specs.declared.Node.{Node}
-use Rattle.regex.specs.Tree.{Tree, empty, epsilon, letter, union, intersection, concatenation, complement, star, below, size, is_special}
+use Rattle.expression.specs.declared.Node.{Node}
+use Rattle.expression.specs.Tree.{Tree, empty, epsilon, letter, union, intersection, concatenation, complement, star, below, size, is_special}
 use Rattle.moves.specs.Moves.{kind_at, special_kind}
 use Rattle.table.proofs.LayoutLaws.{blocks_part, held_kept}
 use Rattle.levels.specs.AutomatonParts.{first_part}

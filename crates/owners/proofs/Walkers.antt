@@ -10,8 +10,8 @@ use lib.ListN.{length, get_or}
 use Rattle.bits.specs.Bit.{bit_at}
 use Rattle.bits.specs.Runs.{tally_below}
 use Rattle.event.proofs.Tests.{same_test}
-use Rattle.regex.specs.declared.Node.{Node}
-use Rattle.regex.specs.Tree.{Tree, intersection, complement, below, size, is_special}
+use Rattle.expression.specs.declared.Node.{Node}
+use Rattle.expression.specs.Tree.{Tree, intersection, complement, below, size, is_special}
 use Rattle.moves.specs.Reached.{Reached}
 use Rattle.table.proofs.LayoutLaws.{holds_block}
 use Rattle.levels.specs.AutomatonParts.{special_part, first_part}

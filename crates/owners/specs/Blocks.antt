@@ -2,8 +2,8 @@
 use Rattle.std.specs.Prelude.{ℕ, ◌+◌, ◌*◌, ◌<◌, ◌≤◌, ◌≡◌, ◌⊎◌, List, ◌&&◌, cond, ltb, get_or}
 use Rattle.bits.specs.Runs.{indicator}
 use Rattle.event.specs.Event.{Word}
-use Rattle.regex.specs.declared.Node.{Node}
-use Rattle.regex.specs.Tree.{Tree}
+use Rattle.expression.specs.declared.Node.{Node}
+use Rattle.expression.specs.Tree.{Tree}
 use Rattle.moves.specs.Moves.{no_node, kind_at, special_kind}
 use Rattle.table.specs.Layout.{block_at, Lies, InBlock}
 use Rattle.levels.specs.Exits.{Room}

@@ -1,7 +1,7 @@
 -- The automaton of a rule, built from its records. Assumes nothing.
 use Rattle.std.specs.Prelude.{ℕ, ◌≡◌, List, length, replicate}
 use Rattle.bits.specs.Runs.{Adds}
-use Rattle.regex.specs.declared.Node.{Node}
+use Rattle.expression.specs.declared.Node.{Node}
 use Rattle.levels.specs.AutomatonParts.{closed_part, letter_part, special_part}
 use Rattle.moves.specs.Moves.{ClosedMoves, LetterEntry, SpecialEntry}
 

@@ -1,9 +1,9 @@
 -- What `fill` is given, and what it makes of it. Assumes nothing.
 use Rattle.std.specs.Prelude.{◌≡◌, ◌⊎◌, List, [], ◌∷◌, ◌++◌, Bool, true, false, ℕ, ◌+◌, ◌*◌, ◌≤◌, ◌<◌, length, get_or, take, drop, replicate}
 use Rattle.event.specs.Event.{Word, Events}
-use Rattle.regex.specs.declared.Node.{Node}
-use Rattle.regex.specs.Tree.{Tree, size, specials, records}
-use Rattle.regex.specs.TreeOf.{stacked, top}
+use Rattle.expression.specs.declared.Node.{Node}
+use Rattle.expression.specs.Tree.{Tree, size, specials, records}
+use Rattle.expression.specs.TreeOf.{stacked, top}
 use Rattle.work.specs.Count.{full_count}
 use Rattle.work.specs.Table.{block_length, Rising}
 use Rattle.work.specs.TableComputed.{block, special_parts, blocks}

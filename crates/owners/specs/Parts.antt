@@ -1,6 +1,6 @@
 -- The parts of a rule in the order of its records. Assumes nothing.
 use Rattle.std.specs.Prelude.{List, [], ◌∷◌, ◌++◌, ℕ, T, get_or}
-use Rattle.regex.specs.Tree.{Tree, empty, epsilon, letter, union, intersection, concatenation, complement, star, is_special}
+use Rattle.expression.specs.Tree.{Tree, empty, epsilon, letter, union, intersection, concatenation, complement, star, is_special}
 
 -- the part that each record heads
 unfoldable pub all_parts : Tree → List Tree

@@ -7,7 +7,7 @@ ghost use Rattle.owners.specs.Building.{Built};
 
 use crate::blocks::first_numbers;
 use levels::{FIRSTS, LETTERS, NUMBERS, SPECIALS};
-use regex::Node;
+use expression::Node;
 
 // Fills a cleared run with the automaton of a rule with m nodes whose first sides are in lefts, for a word of n events, where the blocks of
 // its special nodes begin at number `special` of the table.

@@ -12,7 +12,7 @@ use crate::sides::left_sides;
 use crate::turns::fill_all;
 use levels::NUMBERS;
 use marks::Tally;
-use regex::Node;
+use expression::Node;
 
 // Fills the blocks of the rule that the first m records are those of: the whole rule's from number `whole` of the table on, and those of its
 // special nodes, one after another, from number `special` on. Clears the table if that takes more than the limit.

@@ -3,7 +3,7 @@ ghost use Rattle.std.specs.Prelude.{◌≡◌, length};
 ghost use Rattle.owners.specs.Filling.{tree_from, Recorded};
 ghost use Rattle.owners.specs.Sides.{sides_of, SidesKnown, SidesFound, Lefts};
 
-use regex::{Kind, Node};
+use expression::{Kind, Node};
 
 // How many sides a node of this kind has.
 fn sides_of(kind: Kind) -> usize

@@ -9,7 +9,7 @@ ghost use Rattle.owners.specs.Turns.{is_complement, Setting, Turned, SpecialsTur
 use levels::FIRSTS;
 use marks::{Tally, Target};
 use moves::is_special;
-use regex::{Kind, Node};
+use expression::{Kind, Node};
 
 // Whether a special node's block has the spans at which its walks do not end.
 fn is_complement(kind: Kind) -> bool

@@ -7,9 +7,9 @@ use mathlib.Core.List.{List, [], ◌∷◌, ◌++◌, append_assoc, append-nil}
 use lib.ListN.{length, length-append}
 use Rattle.event.specs.Event.{Events}
 use Rattle.event.proofs.EventLaws.{event_apart}
-use Rattle.regex.specs.Tree.{Tree, epsilon, union, intersection, concatenation, star}
-use Rattle.regex.specs.Grammar.{Level, Atom, Reads, alt_conj, alt_bar, conj_seq, conj_amp, seq_pre, seq_more}
-use Rattle.regex.specs.Grammar.{pre_post, pre_bang, post_atom, post_star, atom_letter, atom_any, atom_set, atom_empty, atom_epsilon, atom_group}
+use Rattle.expression.specs.Tree.{Tree, epsilon, union, intersection, concatenation, star}
+use Rattle.expression.specs.Grammar.{Level, Atom, Reads, alt_conj, alt_bar, conj_seq, conj_amp, seq_pre, seq_more}
+use Rattle.expression.specs.Grammar.{pre_post, pre_bang, post_atom, post_star, atom_letter, atom_any, atom_set, atom_empty, atom_epsilon, atom_group}
 use Rattle.replacement.specs.Graft.{graft, shift}
 
 -- the same reading, at an offset, of a text and as a tree that are written another way

@@ -5,8 +5,8 @@ use mathlib.Core.Path.{◌≡◌, refl, sym, ap, ap₂, subst, ◌∙◌}
 use mathlib.Core.List.{List, [], ◌∷◌, ◌++◌, append_assoc}
 use lib.ListN.{length, length-append}
 use lib.Seq.{take-append_seam, take-append-add}
-use Rattle.regex.specs.Tree.{Tree}
-use Rattle.regex.specs.Grammar.{Alt, Atom, Reads, atom_group}
+use Rattle.expression.specs.Tree.{Tree}
+use Rattle.expression.specs.Grammar.{Alt, Atom, Reads, atom_group}
 use Rattle.replacement.specs.Replaced.{Replaced, ends, byte, name}
 use Rattle.replacement.specs.Pieces.{Piece, own, named, pieces_from, pieces, shape_of, filled}
 use Rattle.replacement.specs.Graft.{width, total, place, operand, operand_at, grafted}

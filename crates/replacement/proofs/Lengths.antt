@@ -11,9 +11,9 @@ use lib.ListN.{length, length-append}
 use Rattle.event.specs.Event.{Events}
 use Rattle.event.proofs.EventLaws.{event_not}
 use Rattle.event.proofs.Tests.{choose}
-use Rattle.regex.specs.Tree.{Tree, empty, epsilon, letter, union, intersection, concatenation, complement, star, size, specials}
-use Rattle.regex.specs.Grammar.{Level, Alt, Reads, alt_conj, alt_bar, conj_seq, conj_amp, seq_pre, seq_more, pre_post, pre_bang, post_atom}
-use Rattle.regex.specs.Grammar.{post_star, atom_letter, atom_any, atom_set, atom_empty, atom_epsilon, atom_group}
+use Rattle.expression.specs.Tree.{Tree, empty, epsilon, letter, union, intersection, concatenation, complement, star, size, specials}
+use Rattle.expression.specs.Grammar.{Level, Alt, Reads, alt_conj, alt_bar, conj_seq, conj_amp, seq_pre, seq_more, pre_post, pre_bang, post_atom}
+use Rattle.expression.specs.Grammar.{post_star, atom_letter, atom_any, atom_set, atom_empty, atom_epsilon, atom_group}
 use Rattle.replacement.specs.Replaced.{angled}
 use Rattle.replacement.specs.Pieces.{Piece, own, named, pieces_from, pieces, shape_of}
 use Rattle.replacement.specs.Graft.{total, more_nodes}

@@ -10,9 +10,9 @@ use Rattle.event.specs.Event.{is_event}
 use Rattle.event.specs.Letters.{is_reserved}
 use Rattle.event.proofs.EventLaws.{reserved_foreign}
 use Rattle.event.proofs.Tests.{and_split}
-use Rattle.regex.specs.Unordered.{Ordered}
-use Rattle.regex.specs.OrderComputed.{noted}
-use Rattle.regex.proofs.UnorderedLaws.{FallsAt, Rising, rising_ordered, ordered_rising, rises_on, rises_with}
+use Rattle.expression.specs.Unordered.{Ordered}
+use Rattle.expression.specs.OrderComputed.{noted}
+use Rattle.expression.proofs.UnorderedLaws.{FallsAt, Rising, rising_ordered, ordered_rising, rises_on, rises_with}
 use Rattle.replacement.specs.Replaced.{is_lower, Lowers, Replaced, ends, byte, name}
 
 -- ---- signs

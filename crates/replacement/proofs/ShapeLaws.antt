@@ -9,20 +9,20 @@ use lib.ListN.{length}
 use Rattle.event.specs.Event.{is_event, Events}
 use Rattle.event.proofs.EventLaws.{event_not, reserved_foreign}
 use Rattle.event.proofs.Tests.{neither, T_of}
-use Rattle.regex.specs.Bytes.{is_leaf}
-use Rattle.regex.specs.Tree.{Tree, size, below, specials, epsilon}
-use Rattle.regex.specs.Grammar.{Level, Alt, Reads, Sentence, alt_conj, alt_bar, conj_seq, conj_amp, seq_pre, seq_more, pre_post, pre_bang, post_atom}
-use Rattle.regex.specs.Grammar.{post_star, atom_letter, atom_any, atom_set, atom_empty, atom_epsilon, atom_group}
-use Rattle.regex.specs.Scan.{to, step_after, step_before, step_opened, step_letters, after_step, scan_from, scanned, finds, is_sentence}
-use Rattle.regex.specs.declared.Stage.{Stage}
-use Rattle.regex.specs.declared.Stage.TheVariants.{Operand, Ended, Opened, Letters}
-use Rattle.regex.specs.declared.ScanStep.{ScanStep}
-use Rattle.regex.specs.declared.ScanStep.TheVariants.{Stuck}
-use Rattle.regex.specs.declared.ScanResult.{ScanResult}
-use Rattle.regex.specs.declared.ScanResult.TheVariants as result
-use Rattle.regex.proofs.ScanAccepts.{from, close_step, scan_reads, sentence_found}
-use Rattle.regex.proofs.OneReading.{sentence_reads}
-use Rattle.regex.specs.TreeOf.{tree_of}
+use Rattle.expression.specs.Bytes.{is_leaf}
+use Rattle.expression.specs.Tree.{Tree, size, below, specials, epsilon}
+use Rattle.expression.specs.Grammar.{Level, Alt, Reads, Sentence, alt_conj, alt_bar, conj_seq, conj_amp, seq_pre, seq_more, pre_post, pre_bang, post_atom}
+use Rattle.expression.specs.Grammar.{post_star, atom_letter, atom_any, atom_set, atom_empty, atom_epsilon, atom_group}
+use Rattle.expression.specs.Scan.{to, step_after, step_before, step_opened, step_letters, after_step, scan_from, scanned, finds, is_sentence}
+use Rattle.expression.specs.declared.Stage.{Stage}
+use Rattle.expression.specs.declared.Stage.TheVariants.{Operand, Ended, Opened, Letters}
+use Rattle.expression.specs.declared.ScanStep.{ScanStep}
+use Rattle.expression.specs.declared.ScanStep.TheVariants.{Stuck}
+use Rattle.expression.specs.declared.ScanResult.{ScanResult}
+use Rattle.expression.specs.declared.ScanResult.TheVariants as result
+use Rattle.expression.proofs.ScanAccepts.{from, close_step, scan_reads, sentence_found}
+use Rattle.expression.proofs.OneReading.{sentence_reads}
+use Rattle.expression.specs.TreeOf.{tree_of}
 use Rattle.replacement.specs.Replaced.{is_angle, Replaced, ends, byte, name, AnySentence, Formed}
 use Rattle.replacement.specs.Pieces.{Piece, own, named, pieces_from, pieces, shape_of, shape, filled}
 use Rattle.replacement.specs.Graft.{more_nodes, more_specials}

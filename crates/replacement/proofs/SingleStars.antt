@@ -2,8 +2,8 @@
 use Prim.Native.Nat.{ℕ}
 use native.Mathlib.Omega.{arith}
 use mathlib.Core.List.{List, ◌∷◌, ◌++◌}
-use Rattle.regex.specs.Stars.{NoDouble}
-use Rattle.regex.proofs.DoubleLaws.{no_double_behind, no_double_with, no_double_end, no_double_joined}
+use Rattle.expression.specs.Stars.{NoDouble}
+use Rattle.expression.proofs.DoubleLaws.{no_double_behind, no_double_with, no_double_end, no_double_joined}
 use Rattle.replacement.specs.Replaced.{Replaced, ends, byte, name}
 
 module _ {R : List ℕ → List ℕ → Type 0} (named : (n v : List ℕ) → R n v → NoDouble v) where

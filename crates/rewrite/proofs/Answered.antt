@@ -7,8 +7,8 @@ use lib.Dec.{ltb}
 use lib.ListN.{length, drop}
 use borrow.Author.Tests.{ltb-true, ltb-false, lt-ltb, le-ltb}
 use Rattle.event.proofs.Tests.{choose}
-use Rattle.regex.specs.Stars.{NoDouble}
-use Rattle.regex.specs.Tree.{Tree, size, specials}
+use Rattle.expression.specs.Stars.{NoDouble}
+use Rattle.expression.specs.Tree.{Tree, size, specials}
 use Rattle.verdict.specs.declared.Verdict.{Verdict}
 use Rattle.rule.specs.RuleComputed.{sentence_outcome, size_outcome, sized, stored_outcome}
 use Rattle.rule.specs.RuleMeaning.{WellFormed}

@@ -9,13 +9,13 @@ use Rattle.event.specs.Leading.{leading}
 use Rattle.event.specs.LetterSets.{holds, bit_of}
 use Rattle.event.specs.Text.{bytes}
 use Rattle.bits.specs.Bit.{has_bit}
-use Rattle.regex.specs.Accept.{accepts}
-use Rattle.regex.specs.Leaves.{leaf_at}
-use Rattle.regex.specs.Parse.{parse}
-use Rattle.regex.specs.TreeOf.{tree_of}
+use Rattle.expression.specs.Accept.{accepts}
+use Rattle.expression.specs.Leaves.{leaf_at}
+use Rattle.expression.specs.Parse.{parse}
+use Rattle.expression.specs.TreeOf.{tree_of}
 use Rattle.work.specs.Count.{full_count}
-use Rattle.regex.specs.OrderComputed.{unordered_from}
-use Rattle.regex.specs.Scan.{scan_from}
+use Rattle.expression.specs.OrderComputed.{unordered_from}
+use Rattle.expression.specs.Scan.{scan_from}
 use Rattle.rule.specs.RuleComputed.{sentence_outcome}
 use Rattle.rewrite.specs.Rewritten.{squeezed_after}
 use Rattle.rewrite.specs.RewriteComputed.{rewrite_answer}

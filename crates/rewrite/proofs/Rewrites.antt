@@ -9,12 +9,12 @@ use borrow.Author.Tests.{eqb-false}
 use Rattle.event.specs.Event.{is_event, Events}
 use Rattle.event.specs.LetterSets.{single, every, letters_of}
 use Rattle.event.proofs.EventLaws.{event_apart}
-use Rattle.regex.specs.Tree.{Tree, star}
-use Rattle.regex.specs.Grammar.{Level, Alt, Post, Atom, Reads, alt_conj, alt_bar, conj_seq, conj_amp, seq_pre, seq_more}
-use Rattle.regex.specs.Grammar.{pre_post, pre_bang, post_atom, post_star, atom_letter, atom_any, atom_set, atom_empty, atom_epsilon, atom_group}
-use Rattle.regex.proofs.OneReading.{one_reading}
-use Rattle.regex.proofs.DoubleLaws.{not_doubled}
-use Rattle.regex.proofs.Texts.{begins, start_not}
+use Rattle.expression.specs.Tree.{Tree, star}
+use Rattle.expression.specs.Grammar.{Level, Alt, Post, Atom, Reads, alt_conj, alt_bar, conj_seq, conj_amp, seq_pre, seq_more}
+use Rattle.expression.specs.Grammar.{pre_post, pre_bang, post_atom, post_star, atom_letter, atom_any, atom_set, atom_empty, atom_epsilon, atom_group}
+use Rattle.expression.proofs.OneReading.{one_reading}
+use Rattle.expression.proofs.DoubleLaws.{not_doubled}
+use Rattle.expression.proofs.Texts.{begins, start_not}
 use Rattle.rewrite.specs.Rewritten.{squeezed_after, rewritten}
 use Rattle.rewrite.specs.Same.{SameLang, Same}
 use Rattle.rewrite.proofs.StarLaws.{ends, ends_snoc, rewritten_append, rewritten_sign, rewritten_star, rewritten_again, squeezed_any, squeezed_kept}

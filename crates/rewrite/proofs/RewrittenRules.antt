@@ -5,11 +5,11 @@ use mathlib.Core.Path.{◌≡◌, sym, subst}
 use mathlib.Core.Bool.{true}
 use mathlib.Core.List.{List}
 use mathlib.Core.Logic.{◌↔◌}
-use Rattle.regex.specs.Stars.{NoDouble}
-use Rattle.regex.specs.Tree.{Tree}
-use Rattle.regex.specs.Grammar.{Alt, Reads}
-use Rattle.regex.proofs.OneReading.{one_reading}
-use Rattle.regex.proofs.Texts.{nonempty}
+use Rattle.expression.specs.Stars.{NoDouble}
+use Rattle.expression.specs.Tree.{Tree}
+use Rattle.expression.specs.Grammar.{Alt, Reads}
+use Rattle.expression.proofs.OneReading.{one_reading}
+use Rattle.expression.proofs.Texts.{nonempty}
 use Rattle.rule.specs.RuleAnswer.{is_rule_byte}
 use Rattle.rule.specs.RuleMeaning.{Legal, Passed, accepted}
 use Rattle.rule.proofs.Answered.{answer_is}

@@ -6,9 +6,9 @@ use mathlib.Core.Logic.{◌⊎◌, inl, inr, ⊎_elim}
 use mathlib.Core.List.{List, [], ◌∷◌, ◌++◌, append-nil, append_assoc}
 use Rattle.event.specs.Event.{Word}
 use Rattle.event.specs.declared.sets.LetterSet.{LetterSet}
-use Rattle.regex.specs.Tree.{Tree, empty, epsilon, letter, union, intersection, concatenation, complement, star}
-use Rattle.regex.specs.Lang.{Concat, Power, Lang}
-use Rattle.regex.proofs.LangDecided.{power_map}
+use Rattle.expression.specs.Tree.{Tree, empty, epsilon, letter, union, intersection, concatenation, complement, star}
+use Rattle.expression.specs.Lang.{Concat, Power, Lang}
+use Rattle.expression.proofs.LangDecided.{power_map}
 use Rattle.work.specs.TableComputed.{special_parts}
 use Rattle.rewrite.specs.Same.{SameLang, SameParts, Same}
 

@@ -8,12 +8,12 @@ use lib.Dec.{eqb}
 use lib.ListN.{length, get_or, replicate}
 use borrow.Author.Tests.{eqb-true, eqb-false}
 use Rattle.event.specs.Event.{is_event}
-use Rattle.regex.specs.Unordered.{Ordered}
-use Rattle.regex.specs.OrderComputed.{noted}
-use Rattle.regex.specs.Stars.{NoDouble}
-use Rattle.regex.specs.StarsComputed.{doubles}
-use Rattle.regex.proofs.UnorderedLaws.{FallsAt, Rising, rising_ordered, ordered_rising, rises_on, rises_with}
-use Rattle.regex.proofs.DoubleLaws.{doubles_stars, doubles_not, not_doubled, after_other, outside, no_double_behind, no_double_with}
+use Rattle.expression.specs.Unordered.{Ordered}
+use Rattle.expression.specs.OrderComputed.{noted}
+use Rattle.expression.specs.Stars.{NoDouble}
+use Rattle.expression.specs.StarsComputed.{doubles}
+use Rattle.expression.proofs.UnorderedLaws.{FallsAt, Rising, rising_ordered, ordered_rising, rises_on, rises_with}
+use Rattle.expression.proofs.DoubleLaws.{doubles_stars, doubles_not, not_doubled, after_other, outside, no_double_behind, no_double_with}
 use Rattle.rewrite.specs.Rewritten.{Squeezed, none, other, run, keep_unless, squeezed_after, rewritten}
 
 -- what holds where b is a star after a star, and where it isn't, holds

@@ -11,9 +11,9 @@ use Rattle.bits.specs.Bit.{ones_of}
 use Rattle.bits.specs.Runs.{packed_run}
 use Rattle.event.specs.Event.{Word}
 use Rattle.event.proofs.Tests.{same_test}
-use Rattle.regex.specs.Tree.{Tree}
-use Rattle.regex.specs.Accept.{accepts}
-use Rattle.regex.proofs.LangDecided.{decides}
+use Rattle.expression.specs.Tree.{Tree}
+use Rattle.expression.specs.Accept.{accepts}
+use Rattle.expression.proofs.LangDecided.{decides}
 use Rattle.work.specs.Span.{Obeys}
 use Rattle.work.specs.Spans.{Spans}
 use Rattle.work.specs.SpansComputed.{list_if, from_start, from_starts, obeying}

@@ -10,7 +10,7 @@ use lib.ListN.{length, get_or, set, drop, length-set, drop_of_length-le}
 use lib.Seq.{sets, sets-eq}
 use borrow.Author.Tests.{not-true, not-false}
 use Rattle.event.proofs.Tails.{rest_at}
-use Rattle.regex.specs.StarsComputed.{doubles}
+use Rattle.expression.specs.StarsComputed.{doubles}
 use Rattle.rewrite.specs.Rewritten.{squeezed_after, rewritten}
 use Rattle.rewrite.proofs.StarLaws.{squeezed_left, squeezed_kept}
 

@@ -1,7 +1,7 @@
 -- What the rewriter's answer says of a rule text and of the buffer at entry: document 02, request f). Assumes nothing.
 -- That `rewrite_answer` is the one answer which says so is `answer_means` and `answer_is` in proofs/Answered.
 use Rattle.std.specs.Prelude.{ℕ, ◌≤◌, ◌<◌, List, length}
-use Rattle.regex.specs.Tree.{Tree, size, specials}
+use Rattle.expression.specs.Tree.{Tree, size, specials}
 use Rattle.rule.specs.RuleMeaning.{WellFormed, IllFormed}
 use Rattle.rewrite.specs.Rewritten.{Squeezed}
 use Rattle.rewrite.specs.RewriteAnswer.{RewriteAnswer, refusal, acceptance}

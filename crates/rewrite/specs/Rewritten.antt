@@ -1,7 +1,7 @@
 -- A text with each run of stars made one star: as a relation, and computed. Assumes nothing.
 -- That the two agree are `squeezed` and `squeezed_only` in proofs/StarLaws.
 use Rattle.std.specs.Prelude.{ℕ, suc, ◌≡◌, Bool, cond, List, [], ◌∷◌, ◌++◌, get_or, replicate}
-use Rattle.regex.specs.StarsComputed.{doubles}
+use Rattle.expression.specs.StarsComputed.{doubles}
 
 -- 02 f): "each run of stars to one star"; nothing else changes. A run ends where no star follows.
 pub data Squeezed : List ℕ → List ℕ → Type 0 where

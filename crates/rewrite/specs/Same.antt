@@ -1,8 +1,8 @@
 -- What stays of a rule's reading when its text is rewritten. Assumes nothing.
 use Rattle.std.specs.Prelude.{◌≤◌, ◌≡◌, ◌↔◌, List, [], ◌∷◌}
 use Rattle.event.specs.Event.{Word}
-use Rattle.regex.specs.Tree.{Tree, size, specials}
-use Rattle.regex.specs.Lang.{Lang}
+use Rattle.expression.specs.Tree.{Tree, size, specials}
+use Rattle.expression.specs.Lang.{Lang}
 use Rattle.work.specs.TableComputed.{special_parts}
 
 -- 02 f): "the same language"

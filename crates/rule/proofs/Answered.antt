@@ -8,23 +8,23 @@ use mathlib.Core.Bool.{false}
 use lib.ListN.{length}
 use lib.Dec.{eqb, ltb}
 use borrow.Author.Tests.{eqb-true, eqb-false, ltb-true, ltb-false, eq-eqb, ne_eqb, lt-ltb, le-ltb}
-use Rattle.regex.specs.Tree.{Tree, size, specials}
-use Rattle.regex.specs.Grammar.{Alt, Reads, Sentence, Longest}
-use Rattle.regex.specs.Scan.{scanned, Means, SentenceOf}
-use Rattle.regex.specs.TreeOf.{tree_of}
-use Rattle.regex.specs.declared.ScanResult.{ScanResult}
-use Rattle.regex.specs.declared.ScanResult.TheVariants.{Complete, Broken}
-use Rattle.regex.proofs.ScanAccepts.{sentence_found}
+use Rattle.expression.specs.Tree.{Tree, size, specials}
+use Rattle.expression.specs.Grammar.{Alt, Reads, Sentence, Longest}
+use Rattle.expression.specs.Scan.{scanned, Means, SentenceOf}
+use Rattle.expression.specs.TreeOf.{tree_of}
+use Rattle.expression.specs.declared.ScanResult.{ScanResult}
+use Rattle.expression.specs.declared.ScanResult.TheVariants.{Complete, Broken}
+use Rattle.expression.proofs.ScanAccepts.{sentence_found}
 use Rattle.event.proofs.LeadingLaws.{leading_found, leading_is}
 use Rattle.event.proofs.Tests.{choose}
-use Rattle.regex.proofs.ScanDecides.{scan_right}
-use Rattle.regex.specs.Stars.{NoDouble}
-use Rattle.regex.specs.StarsComputed.{double_at}
-use Rattle.regex.specs.OrderComputed.{unordered_at}
-use Rattle.regex.proofs.DoubleLaws.{first_double, no_double_lem, none_is, double_inside}
-use Rattle.regex.proofs.DoubleLaws.{first_is as double-is}
-use Rattle.regex.proofs.OneReading.{tree_is}
-use Rattle.regex.proofs.UnorderedLaws.{unordered_first, ordered_all, first_is, ordered_is, inside_text}
+use Rattle.expression.proofs.ScanDecides.{scan_right}
+use Rattle.expression.specs.Stars.{NoDouble}
+use Rattle.expression.specs.StarsComputed.{double_at}
+use Rattle.expression.specs.OrderComputed.{unordered_at}
+use Rattle.expression.proofs.DoubleLaws.{first_double, no_double_lem, none_is, double_inside}
+use Rattle.expression.proofs.DoubleLaws.{first_is as double-is}
+use Rattle.expression.proofs.OneReading.{tree_is}
+use Rattle.expression.proofs.UnorderedLaws.{unordered_first, ordered_all, first_is, ordered_is, inside_text}
 use Rattle.verdict.specs.Verdicts.{refused}
 use Rattle.verdict.specs.declared.Verdict.{Verdict}
 use Rattle.rule.specs.RuleAnswer.{RuleAnswer, is_rule_byte, refusal, acceptance, values, nodes_for, rule_values, refusal_verdict, unused, told}

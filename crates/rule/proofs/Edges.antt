@@ -9,13 +9,13 @@ use Rattle.event.specs.Event.{is_event}
 use Rattle.event.specs.Leading.{leading}
 use Rattle.event.specs.LetterSets.{bit_of, single, every, gathered, letters_of}
 use Rattle.event.specs.Text.{bytes}
-use Rattle.regex.specs.Leaves.{leaf_at}
-use Rattle.regex.specs.Parse.{parse}
-use Rattle.regex.specs.Scan.{scan_from}
-use Rattle.regex.specs.Tree.{letter, concatenation, complement, star}
-use Rattle.regex.specs.OrderComputed.{unordered_from}
-use Rattle.regex.specs.StarsComputed.{double_from}
-use Rattle.regex.specs.TreeOf.{tree_of}
+use Rattle.expression.specs.Leaves.{leaf_at}
+use Rattle.expression.specs.Parse.{parse}
+use Rattle.expression.specs.Scan.{scan_from}
+use Rattle.expression.specs.Tree.{letter, concatenation, complement, star}
+use Rattle.expression.specs.OrderComputed.{unordered_from}
+use Rattle.expression.specs.StarsComputed.{double_from}
+use Rattle.expression.specs.TreeOf.{tree_of}
 use Rattle.rule.specs.RuleAnswer.{refusal, acceptance}
 use Rattle.rule.specs.RuleComputed.{sentence_outcome, stored_outcome, rule_answer}
 use Rattle.rule.specs.declared.Outcome.TheVariants.{Accepted, Refused}

@@ -8,9 +8,9 @@ use lib.Dec.{T}
 use lib.ListN.{length}
 use Rattle.event.specs.Event.{is_event, Events}
 use Rattle.event.proofs.Tests.{of_T}
-use Rattle.regex.specs.Tree.{Tree}
-use Rattle.regex.specs.Grammar.{Level, Reads, alt_conj, alt_bar, conj_seq, conj_amp, seq_pre, seq_more, pre_post, pre_bang, post_atom, post_star}
-use Rattle.regex.specs.Grammar.{atom_letter, atom_any, atom_set, atom_empty, atom_epsilon, atom_group}
+use Rattle.expression.specs.Tree.{Tree}
+use Rattle.expression.specs.Grammar.{Level, Reads, alt_conj, alt_bar, conj_seq, conj_amp, seq_pre, seq_more, pre_post, pre_bang, post_atom, post_star}
+use Rattle.expression.specs.Grammar.{atom_letter, atom_any, atom_set, atom_empty, atom_epsilon, atom_group}
 use Rattle.rule.specs.RuleAnswer.{is_rule_byte}
 use Rattle.rule.specs.RuleMeaning.{Listed}
 

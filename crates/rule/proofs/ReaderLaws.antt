@@ -9,14 +9,14 @@ use lib.ListN.{length, get_or, drop, length-drop}
 use lib.Dec.{eqb, ltb}
 use borrow.Author.Tests.{lt-ltb, le-ltb, eq-eqb, ne_eqb}
 use Rattle.event.proofs.Tails.{tail, tail_is}
-use Rattle.regex.specs.Bytes.{is_start}
-use Rattle.regex.specs.Leaves.{leaf_at}
-use Rattle.regex.specs.declared.Leaf.{Leaf}
-use Rattle.regex.proofs.LeafLaws.{leaf_fits}
-use Rattle.regex.specs.Parse.{Call, alt, alt_rest, conj, conj_rest, seq, seq_rest, pre, post, post_rest, atom, rank, measure, parse}
-use Rattle.regex.specs.declared.Kind.{Kind}
-use Rattle.regex.specs.declared.Kind.TheVariants.{Union, Intersection, Concatenation, Complement, Star}
-use Rattle.regex.proofs.Texts.{start_some}
+use Rattle.expression.specs.Bytes.{is_start}
+use Rattle.expression.specs.Leaves.{leaf_at}
+use Rattle.expression.specs.declared.Leaf.{Leaf}
+use Rattle.expression.proofs.LeafLaws.{leaf_fits}
+use Rattle.expression.specs.Parse.{Call, alt, alt_rest, conj, conj_rest, seq, seq_rest, pre, post, post_rest, atom, rank, measure, parse}
+use Rattle.expression.specs.declared.Kind.{Kind}
+use Rattle.expression.specs.declared.Kind.TheVariants.{Union, Intersection, Concatenation, Complement, Star}
+use Rattle.expression.proofs.Texts.{start_some}
 use Rattle.rule.specs.Reader.{State, Done, at, add, pushed, skipped, least}
 use Rattle.rule.specs.declared.levels.Reading.{Reading}
 

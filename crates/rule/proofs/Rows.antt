@@ -4,8 +4,8 @@ use native.Mathlib.Omega.{arith}
 use mathlib.Core.Path.{◌≡◌, refl, sym, ap, ap₂, ◌∙◌}
 use mathlib.Core.List.{List}
 use lib.ListN.{length, length-append, length-replicate}
-use Rattle.regex.specs.Tree.{Tree}
-use Rattle.regex.proofs.RecordLaws.{records_length}
+use Rattle.expression.specs.Tree.{Tree}
+use Rattle.expression.proofs.RecordLaws.{records_length}
 use Rattle.verdict.specs.declared.Verdict.{Verdict}
 use Rattle.verdict.proofs.ByReader.{ByReader, below_judge, above_judge}
 use Rattle.rule.specs.RuleAnswer.{RuleAnswer, refusal, refusal_verdict, acceptance}

@@ -8,14 +8,14 @@ use lib.ListN.{length, get_or, drop}
 use lib.Seq.{drop-length}
 use lib.Dec.{eqb}
 use Rattle.event.specs.Event.{is_event}
-use Rattle.regex.specs.Bytes.{is_leaf}
-use Rattle.regex.specs.declared.Stage.{Stage}
-use Rattle.regex.specs.declared.Stage.TheVariants.{Operand, Ended, Opened, Letters}
-use Rattle.regex.specs.Scan.{step_at, step_of, scan_from, finish, after_step}
-use Rattle.regex.specs.declared.ScanState.{ScanState}
-use Rattle.regex.specs.declared.ScanStep.{ScanStep}
-use Rattle.regex.specs.declared.ScanStep.TheVariants.{Stuck, Next}
-use Rattle.regex.specs.declared.ScanResult.TheVariants.{Broken}
+use Rattle.expression.specs.Bytes.{is_leaf}
+use Rattle.expression.specs.declared.Stage.{Stage}
+use Rattle.expression.specs.declared.Stage.TheVariants.{Operand, Ended, Opened, Letters}
+use Rattle.expression.specs.Scan.{step_at, step_of, scan_from, finish, after_step}
+use Rattle.expression.specs.declared.ScanState.{ScanState}
+use Rattle.expression.specs.declared.ScanStep.{ScanStep}
+use Rattle.expression.specs.declared.ScanStep.TheVariants.{Stuck, Next}
+use Rattle.expression.specs.declared.ScanResult.TheVariants.{Broken}
 use Rattle.event.proofs.Tails.{rest_at}
 use Rattle.event.proofs.Tests.{choose}
 

@@ -12,17 +12,17 @@ use Rattle.event.specs.LetterSets.{none, every, single, letters_of}
 use Rattle.event.specs.declared.sets.LetterSet.{LetterSet}
 use Rattle.event.specs.SetParts.{OnlyLetters}
 use Rattle.event.proofs.SetLaws.{plus_small, gathered_small}
-use Rattle.regex.specs.KindNumber.{kind_number}
-use Rattle.regex.specs.Tree.{Tree, size, records, node_record}
-use Rattle.regex.specs.Grammar.{Level, Reads, alt_conj, alt_bar, conj_seq, conj_amp, seq_pre, seq_more}
-use Rattle.regex.specs.Grammar.{pre_post, pre_bang, post_atom, post_star, atom_letter, atom_any, atom_set, atom_empty, atom_epsilon, atom_group}
-use Rattle.regex.specs.Parse.{alt, measure}
-use Rattle.regex.specs.TreeOf.{tree_of}
-use Rattle.regex.specs.declared.Kind.{Kind}
-use Rattle.regex.specs.declared.Kind.TheVariants.{Empty, Letter}
-use Rattle.regex.specs.declared.Node.{Node}
-use Rattle.regex.proofs.RecordLaws.{records_length}
-use Rattle.regex.proofs.Parses.{pushes, parse_whole}
+use Rattle.expression.specs.KindNumber.{kind_number}
+use Rattle.expression.specs.Tree.{Tree, size, records, node_record}
+use Rattle.expression.specs.Grammar.{Level, Reads, alt_conj, alt_bar, conj_seq, conj_amp, seq_pre, seq_more}
+use Rattle.expression.specs.Grammar.{pre_post, pre_bang, post_atom, post_star, atom_letter, atom_any, atom_set, atom_empty, atom_epsilon, atom_group}
+use Rattle.expression.specs.Parse.{alt, measure}
+use Rattle.expression.specs.TreeOf.{tree_of}
+use Rattle.expression.specs.declared.Kind.{Kind}
+use Rattle.expression.specs.declared.Kind.TheVariants.{Empty, Letter}
+use Rattle.expression.specs.declared.Node.{Node}
+use Rattle.expression.proofs.RecordLaws.{records_length}
+use Rattle.expression.proofs.Parses.{pushes, parse_whole}
 use Rattle.rule.specs.RuleAnswer.{unused}
 use Rattle.rule.specs.Reader.{State, Done, Records, add, kind_of, nodes_of, Readable, nodes_read}
 

@@ -1,13 +1,13 @@
 -- What the private functions of the recursive reader do, which a buyer needn't read. Assumes nothing.
 use Rattle.std.specs.Prelude.{ℕ, ◌+◌, ◌*◌, ◌%◌, ◌≤◌, min, ◌≡◌, List, [], ◌∷◌, cond, length, set, ltb, eqb}
-use Rattle.regex.specs.KindNumber.{kind_number}
-use Rattle.regex.specs.Tree.{size}
-use Rattle.regex.specs.TreeOf.{tree_of}
-use Rattle.regex.specs.Grammar.{Alt, Reads}
-use Rattle.regex.specs.Parse.{Call, alt, alt_rest, conj, conj_rest, seq, seq_rest, pre, post, post_rest, atom, measure, parse}
-use Rattle.regex.specs.declared.Kind.{Kind}
-use Rattle.regex.specs.declared.Kind.TheVariants.{Empty, Epsilon, Letter, Union, Intersection, Concatenation, Complement, Star}
-use Rattle.regex.specs.declared.Node.{Node}
+use Rattle.expression.specs.KindNumber.{kind_number}
+use Rattle.expression.specs.Tree.{size}
+use Rattle.expression.specs.TreeOf.{tree_of}
+use Rattle.expression.specs.Grammar.{Alt, Reads}
+use Rattle.expression.specs.Parse.{Call, alt, alt_rest, conj, conj_rest, seq, seq_rest, pre, post, post_rest, atom, measure, parse}
+use Rattle.expression.specs.declared.Kind.{Kind}
+use Rattle.expression.specs.declared.Kind.TheVariants.{Empty, Epsilon, Letter, Union, Intersection, Concatenation, Complement, Star}
+use Rattle.expression.specs.declared.Node.{Node}
 use Rattle.rule.specs.RuleAnswer.{nodes_for}
 use Rattle.rule.specs.declared.levels.Reading.{Reading}
 

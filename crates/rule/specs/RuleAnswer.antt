@@ -1,9 +1,9 @@
 -- The values of the rule reader's answers, by documents 01, 02 e) and 02 f). Assumes nothing.
 use Rattle.std.specs.Prelude.{ℕ, ◌-◌, List, ◌++◌, Bool, ◌||◌, eqb, replicate}
 use Rattle.event.specs.Event.{is_event}
-use Rattle.regex.specs.Tree.{Tree, size, specials, records}
-use Rattle.regex.specs.declared.Kind.TheVariants.{Empty}
-use Rattle.regex.specs.declared.Node.{Node}
+use Rattle.expression.specs.Tree.{Tree, size, specials, records}
+use Rattle.expression.specs.declared.Kind.TheVariants.{Empty}
+use Rattle.expression.specs.declared.Node.{Node}
 use Rattle.verdict.specs.Verdicts as verdict
 use Rattle.verdict.specs.declared.Verdict.{Verdict}
 use Rattle.rule.specs.declared.Outcome.{Outcome}

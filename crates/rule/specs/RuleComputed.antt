@@ -2,13 +2,13 @@
 -- That it is the one answer which has `RuleMeaning` is `answer_means` and `answer_is` in proofs/Answered.
 use Rattle.std.specs.Prelude.{ℕ, List, cond, eqb, ltb, length}
 use Rattle.event.specs.Leading.{leading}
-use Rattle.regex.specs.TreeOf.{tree_of}
-use Rattle.regex.specs.Scan.{scanned}
-use Rattle.regex.specs.OrderComputed.{unordered_at}
-use Rattle.regex.specs.StarsComputed.{double_at}
-use Rattle.regex.specs.declared.Node.{Node}
-use Rattle.regex.specs.declared.ScanResult.{ScanResult}
-use Rattle.regex.specs.declared.ScanResult.TheVariants.{Complete, Broken}
+use Rattle.expression.specs.TreeOf.{tree_of}
+use Rattle.expression.specs.Scan.{scanned}
+use Rattle.expression.specs.OrderComputed.{unordered_at}
+use Rattle.expression.specs.StarsComputed.{double_at}
+use Rattle.expression.specs.declared.Node.{Node}
+use Rattle.expression.specs.declared.ScanResult.{ScanResult}
+use Rattle.expression.specs.declared.ScanResult.TheVariants.{Complete, Broken}
 use Rattle.rule.specs.RuleAnswer.{RuleAnswer, is_rule_byte, unused, nodes_for, rule_values}
 use Rattle.rule.specs.declared.Outcome.{Outcome}
 use Rattle.rule.specs.declared.Outcome.TheVariants.{Accepted, Refused}

@@ -1,10 +1,10 @@
 -- What the rule reader's answer says of a text, by the grammar: document 01's row "Rule text", with 02 e) and f). Assumes nothing.
 -- That `rule_answer` is the one answer which says so is `answer_means` and `answer_is` in proofs/Answered.
 use Rattle.std.specs.Prelude.{ℕ, ◌≤◌, ◌<◌, ◌≡◌, List, true, false, length, get_or}
-use Rattle.regex.specs.Tree.{Tree, size, specials}
-use Rattle.regex.specs.Grammar.{Alt, Reads, Sentence, Longest}
-use Rattle.regex.specs.Unordered.{FirstUnordered, Ordered}
-use Rattle.regex.specs.Stars.{FirstDouble, NoDouble}
+use Rattle.expression.specs.Tree.{Tree, size, specials}
+use Rattle.expression.specs.Grammar.{Alt, Reads, Sentence, Longest}
+use Rattle.expression.specs.Unordered.{FirstUnordered, Ordered}
+use Rattle.expression.specs.Stars.{FirstDouble, NoDouble}
 use Rattle.rule.specs.RuleAnswer.{RuleAnswer, is_rule_byte, refusal, acceptance}
 
 -- 01: "a text of 1 to 255 bytes"

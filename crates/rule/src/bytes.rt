@@ -1,6 +1,6 @@
 // The bytes of a rule text.
 ghost use Rattle.std.specs.Prelude.{◌≡◌};
-ghost use Rattle.regex.specs.Bytes.{is_leaf, is_start};
+ghost use Rattle.expression.specs.Bytes.{is_leaf, is_start};
 ghost use Rattle.rule.specs.RuleAnswer.{is_rule_byte};
 ghost use Rattle.rule.specs.RuleComputed.{foreign_at};
 

@@ -3,11 +3,11 @@ ghost use Rattle.std.specs.Prelude.{◌≡◌, ◌≤◌, length, drop};
 ghost use Rattle.event.specs.Event.{is_event};
 ghost use Rattle.event.specs.Leading.{leading};
 ghost use Rattle.event.specs.LetterSets.{letters_of};
-ghost use Rattle.regex.specs.Leaves.{leaf, bracketed, leaf_at};
+ghost use Rattle.expression.specs.Leaves.{leaf, bracketed, leaf_at};
 
 use event::sets::LetterSet;
 use event::{is_event, sets};
-use regex::{Kind, Leaf};
+use expression::{Kind, Leaf};
 
 // How many letters stand at the front.
 fn count_letters(s: &[u8]) -> usize

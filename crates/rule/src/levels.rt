@@ -2,13 +2,13 @@
 // The levels write each record as two numbers into a lent buffer: records by value in every frame of the recursion would take
 // megabytes of stack.
 ghost use Rattle.std.specs.Prelude.{◌≡◌, ◌+◌, ◌≤◌, ◌<◌, length, get_or};
-ghost use Rattle.regex.specs.Parse.{alt, conj, seq, pre, post, atom};
+ghost use Rattle.expression.specs.Parse.{alt, conj, seq, pre, post, atom};
 ghost use Rattle.rule.specs.Reader.{at, pushed, Done, Readable, nodes_read};
 
 use crate::bytes::is_start;
 use crate::leaf::read_leaf;
 use crate::records::nodes_of;
-use regex::{Kind, Node, kind_number};
+use expression::{Kind, Node, kind_number};
 
 // How far the reader has come: the records written, and the offset at which the unread text begins.
 #[derive(Drop)]

@@ -13,7 +13,7 @@ ghost use Rattle.rule.specs.RuleAnswer.{rule_values, refusal_verdict, outcome_ve
 ghost use Rattle.rule.specs.RuleComputed.{ordered, sentence_outcome, size_outcome, stored_outcome, rule_answer};
 ghost use Rattle.rule.specs.RuleMeaning.{RuleMeaning};
 
-use regex::{Kind, Node, ScanResult};
+use expression::{Kind, Node, ScanResult};
 use verdict::Verdict;
 
 // The most that a rule may have.

@@ -1,6 +1,6 @@
 // The order of the letters inside brackets.
 ghost use Rattle.std.specs.Prelude.{◌≡◌};
-ghost use Rattle.regex.specs.OrderComputed.{noted, falls, unordered_at};
+ghost use Rattle.expression.specs.OrderComputed.{noted, falls, unordered_at};
 
 use event::is_event;
 

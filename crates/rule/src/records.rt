@@ -3,7 +3,7 @@ ghost use Rattle.std.specs.Prelude.{◌≡◌, length};
 ghost use Rattle.rule.specs.Reader.{kind_of, nodes_of};
 
 use event::sets::LetterSet;
-use regex::{Kind, Node, SET_COUNT};
+use expression::{Kind, Node, SET_COUNT};
 
 // The kind that a number stands for.
 fn kind_of(number: u64) -> Kind

@@ -1,10 +1,10 @@
 // The scan: whether a text is a sentence, with its numbers of nodes, or where it breaks off.
 ghost use Rattle.std.specs.Prelude.{◌≡◌, ◌≤◌, length};
-ghost use Rattle.regex.specs.Scan.{to, step_after, step_before, step_opened, step_letters, step_of, finish, scanned};
+ghost use Rattle.expression.specs.Scan.{to, step_after, step_before, step_opened, step_letters, step_of, finish, scanned};
 
 use crate::bytes::is_leaf;
 use event::is_event;
-use regex::{ScanResult, ScanState, ScanStep, Stage};
+use expression::{ScanResult, ScanState, ScanStep, Stage};
 
 // Scans a text, byte after byte.
 pub fn scan(text: &[u8]) -> ScanResult

@@ -1,6 +1,6 @@
 // Stars directly after a star.
 ghost use Rattle.std.specs.Prelude.{◌≡◌};
-ghost use Rattle.regex.specs.StarsComputed.{doubles, double_at};
+ghost use Rattle.expression.specs.StarsComputed.{doubles, double_at};
 
 const STAR: u8 = b'*';
 

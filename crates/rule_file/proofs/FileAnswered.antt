@@ -10,16 +10,16 @@ use borrow.Author.Tests.{eqb-true, eqb-false, ltb-true, ltb-false, eq-eqb, ne_eq
 use Rattle.event.specs.Leading.{leading}
 use Rattle.event.proofs.LeadingLaws.{leading_found}
 use Rattle.event.proofs.Tests.{choose, T_of}
-use Rattle.regex.specs.Tree.{Tree, size, specials}
-use Rattle.regex.specs.Scan.{is_sentence}
-use Rattle.regex.specs.TreeOf.{tree_of}
-use Rattle.regex.specs.Unordered.{Ordered}
-use Rattle.regex.specs.OrderComputed.{unordered_at}
-use Rattle.regex.specs.Stars.{NoDouble}
-use Rattle.regex.specs.StarsComputed.{double_at}
-use Rattle.regex.proofs.OneReading.{sentence_reads}
-use Rattle.regex.proofs.UnorderedLaws.{unordered_first, ordered_all}
-use Rattle.regex.proofs.DoubleLaws.{first_double, no_double_lem}
+use Rattle.expression.specs.Tree.{Tree, size, specials}
+use Rattle.expression.specs.Scan.{is_sentence}
+use Rattle.expression.specs.TreeOf.{tree_of}
+use Rattle.expression.specs.Unordered.{Ordered}
+use Rattle.expression.specs.OrderComputed.{unordered_at}
+use Rattle.expression.specs.Stars.{NoDouble}
+use Rattle.expression.specs.StarsComputed.{double_at}
+use Rattle.expression.proofs.OneReading.{sentence_reads}
+use Rattle.expression.proofs.UnorderedLaws.{unordered_first, ordered_all}
+use Rattle.expression.proofs.DoubleLaws.{first_double, no_double_lem}
 use Rattle.rule.specs.RuleMeaning.{FitsLength}
 use Rattle.replacement.specs.Pieces.{pieces, shape}
 use Rattle.replacement.proofs.PieceLaws.{replaced_by_pieces}

@@ -8,15 +8,15 @@ use Rattle.event.specs.Event.{is_event}
 use Rattle.event.specs.Leading.{leading}
 use Rattle.event.specs.LetterSets.{gathered, bit_of}
 use Rattle.event.specs.Text.{bytes}
-use Rattle.regex.specs.KindNumber.{kind_number}
-use Rattle.regex.specs.Tree.{records}
-use Rattle.regex.specs.Leaves.{leaf_at}
-use Rattle.regex.specs.Parse.{parse}
-use Rattle.regex.specs.Scan.{scan_from}
-use Rattle.regex.specs.TreeOf.{tree_of}
-use Rattle.regex.specs.OrderComputed.{unordered_from}
-use Rattle.regex.specs.StarsComputed.{double_from}
-use Rattle.regex.specs.declared.Node.{Node}
+use Rattle.expression.specs.KindNumber.{kind_number}
+use Rattle.expression.specs.Tree.{records}
+use Rattle.expression.specs.Leaves.{leaf_at}
+use Rattle.expression.specs.Parse.{parse}
+use Rattle.expression.specs.Scan.{scan_from}
+use Rattle.expression.specs.TreeOf.{tree_of}
+use Rattle.expression.specs.OrderComputed.{unordered_from}
+use Rattle.expression.specs.StarsComputed.{double_from}
+use Rattle.expression.specs.declared.Node.{Node}
 use Rattle.replacement.specs.Replaced.{is_lower}
 use Rattle.replacement.specs.Pieces.{name_length, pieces_from, shape_of, filled}
 use Rattle.rule_line.specs.declared.LineNodes.{LineNodes}

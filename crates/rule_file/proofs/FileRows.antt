@@ -9,8 +9,8 @@ use mathlib.Core.List.{List, [], ◌∷◌, ◌++◌, map, Memᴰ}
 use lib.ListN.{length, get_or, length-append, length-map, length-replicate}
 use Rattle.verdict.specs.Verdicts as verdict
 use Rattle.verdict.proofs.ByReader.{ByReader, below_judge, above_judge}
-use Rattle.regex.specs.Tree.{size, specials}
-use Rattle.regex.proofs.RecordLaws.{records_length}
+use Rattle.expression.specs.Tree.{size, specials}
+use Rattle.expression.proofs.RecordLaws.{records_length}
 use Rattle.rule_line.specs.Lines.{Line, line_nodes, unused_lines, refusal_number}
 use Rattle.rule_line.specs.Coding.{line_at}
 use Rattle.rule_line.specs.declared.LineNodes.{LineNodes}

@@ -7,8 +7,8 @@ use mathlib.Core.Path.{◌≡◌, refl, sym, ap, ap₂, subst, ◌∙◌}
 use mathlib.Core.List.{List, [], ◌∷◌, ◌++◌, map, map-append, append_assoc}
 use lib.ListN.{length, get_or, take, drop, set, length-append, length-set, replicate}
 use lib.Seq.{get_or-set_same, get_or-set_other}
-use Rattle.regex.specs.Tree.{size, below, specials}
-use Rattle.regex.specs.declared.Node.{Node}
+use Rattle.expression.specs.Tree.{size, below, specials}
+use Rattle.expression.specs.declared.Node.{Node}
 use Rattle.rule_line.specs.Lines.{Line, unused_lines}
 use Rattle.rule_line.specs.Coding.{name_at, Within}
 use Rattle.rule_line.specs.Summing.{Facts}

@@ -4,7 +4,7 @@ use native.Mathlib.Omega.{arith}
 use mathlib.Core.Path.{◌≡◌, refl, sym, ap, ap₂, subst, subst₂, ◌∙◌}
 use mathlib.Core.List.{List, [], ◌∷◌, ◌++◌, map}
 use lib.ListN.{length, drop, set, replicate, drop_of_length-le}
-use Rattle.regex.specs.declared.Node.{Node}
+use Rattle.expression.specs.declared.Node.{Node}
 use Rattle.rule_line.specs.Lines.{Line, line_nodes, unused_lines}
 use Rattle.rule_line.specs.Keeping.{Kept}
 use Rattle.rule_line.specs.declared.LineNodes.{LineNodes}

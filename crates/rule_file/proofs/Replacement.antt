@@ -4,12 +4,12 @@ use mathlib.Core.Path.{◌≡◌, sym, ap, subst, ◌∙◌}
 use mathlib.Core.Logic.{◌⊎◌, inl, inr, ⊎_elim}
 use mathlib.Core.List.Memᴰ
 use mathlib.Core.List.{List, [], ◌∷◌, Memᴰ}
-use Rattle.regex.specs.Tree.{Tree}
-use Rattle.regex.specs.Grammar.{Alt, Reads}
-use Rattle.regex.specs.Lang.{Lang}
-use Rattle.regex.specs.Unordered.{Ordered}
-use Rattle.regex.specs.Stars.{NoDouble}
-use Rattle.regex.proofs.OneReading.{one_reading}
+use Rattle.expression.specs.Tree.{Tree}
+use Rattle.expression.specs.Grammar.{Alt, Reads}
+use Rattle.expression.specs.Lang.{Lang}
+use Rattle.expression.specs.Unordered.{Ordered}
+use Rattle.expression.specs.Stars.{NoDouble}
+use Rattle.expression.proofs.OneReading.{one_reading}
 use Rattle.replacement.specs.Replaced.{Replaced}
 use Rattle.replacement.proofs.Grafted.{filled_is}
 use Rattle.replacement.proofs.Ordering.{replaced_ordered}

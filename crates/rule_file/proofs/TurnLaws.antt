@@ -8,7 +8,7 @@ use lib.Dec.{ltb}
 use lib.ListN.{length, take, drop, length-drop}
 use lib.Seq.{drop-drop}
 use borrow.Author.Tests.{ne_eqb}
-use Rattle.regex.specs.declared.Node.{Node}
+use Rattle.expression.specs.declared.Node.{Node}
 use Rattle.rule_line.specs.Lines.{Line, refusal_number}
 use Rattle.rule_line.specs.LineMeaning.{Begins, AtRule}
 use Rattle.rule_line.specs.LineComputed.{has, is_line, name_of, body_of, rule_of, bad, good, judged}

@@ -1,9 +1,9 @@
 -- What an answer says of a rule file: document 02, requests b), e) and f). Assumes nothing.
 -- That `file_answer` is the one answer which says so is `answer_means` and `answer_is` in proofs/FileAnswered.
 use Rattle.std.specs.Prelude.{ℕ, ◌+◌, ◌≤◌, ◌<◌, ◌≡◌, false, List, [], ◌∷◌, ◌++◌, length, get_or}
-use Rattle.regex.specs.Tree.{Tree, size, specials}
-use Rattle.regex.specs.Unordered.{Unordered, Ordered}
-use Rattle.regex.specs.Stars.{Double, NoDouble}
+use Rattle.expression.specs.Tree.{Tree, size, specials}
+use Rattle.expression.specs.Unordered.{Unordered, Ordered}
+use Rattle.expression.specs.Stars.{Double, NoDouble}
 use Rattle.rule.specs.RuleMeaning.{FitsLength}
 use Rattle.replacement.specs.Replaced.{Formed}
 use Rattle.rule_line.specs.Lines.{Line}

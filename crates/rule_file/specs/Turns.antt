@@ -1,8 +1,8 @@
 -- What a line's turn says of the file, and what the reader then keeps, which a buyer needn't read. Assumes nothing.
 use Rattle.std.specs.Prelude.{ℕ, suc, ◌+◌, ◌-◌, ◌*◌, ◌≤◌, ◌<◌, ◌≡◌, false, List, [], ◌∷◌, ◌++◌, length, take, drop, set}
-use Rattle.regex.specs.Tree.{size, specials}
-use Rattle.regex.specs.Grammar.{Alt, Reads}
-use Rattle.regex.specs.declared.Node.{Node}
+use Rattle.expression.specs.Tree.{size, specials}
+use Rattle.expression.specs.Grammar.{Alt, Reads}
+use Rattle.expression.specs.declared.Node.{Node}
 use Rattle.rule_line.specs.Lines.{Line, line_nodes, refusal_number}
 use Rattle.rule_line.specs.LineComputed.{has}
 use Rattle.rule_file.specs.FileMeaning as meaning

@@ -8,7 +8,7 @@ ghost use Rattle.rule_file.specs.FileComputed.{file_answer};
 ghost use Rattle.rule_file.specs.FileMeaning.{FileMeaning};
 
 use crate::turn::{TurnOutcome, keep, take_turn};
-use regex::{Kind, Node};
+use expression::{Kind, Node};
 use rule_line::{LineNodes, Refusal};
 use verdict::Verdict;
 

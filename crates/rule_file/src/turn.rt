@@ -5,7 +5,7 @@ ghost use Rattle.rule_line.specs.Keeping.{Kept};
 ghost use Rattle.rule_file.specs.declared.turn.TurnOutcome.TheVariants.{Refused};
 ghost use Rattle.rule_file.specs.Turns.{TurnSays, names_with, facts_with};
 
-use regex::{Kind, Node};
+use expression::{Kind, Node};
 use rule_line::line::{LineRead, read_line};
 use rule_line::names::find;
 use rule_line::text::{RuleOutcome, read_rule};

@@ -7,7 +7,7 @@ use mathlib.Core.List.{List, [], ◌∷◌, ◌++◌, map}
 use lib.Dec.{ltb}
 use lib.ListN.{length, get_or, take}
 use borrow.Author.Tests.{le-leb, lt-ltb, le-ltb}
-use Rattle.regex.specs.Tree.{Tree, below, specials}
+use Rattle.expression.specs.Tree.{Tree, below, specials}
 use Rattle.replacement.specs.Pieces.{Piece, own, named}
 use Rattle.replacement.specs.Graft.{total, place, more_nodes, more_specials}
 use Rattle.replacement.proofs.PieceLaws.{Names}

@@ -5,13 +5,13 @@ use mathlib.Core.Bool.{true}
 use mathlib.Core.List.{List}
 use lib.ListN.{length}
 use Rattle.event.proofs.Tests.{T_of}
-use Rattle.regex.specs.Tree.{size, specials, records}
-use Rattle.regex.specs.Grammar.{Alt, Reads}
-use Rattle.regex.specs.Scan.{scanned, is_sentence}
-use Rattle.regex.specs.TreeOf.{tree_of}
-use Rattle.regex.specs.declared.ScanResult.TheVariants.{Complete}
-use Rattle.regex.proofs.OneReading.{tree_is, sentence_reads}
-use Rattle.regex.proofs.ScanAccepts.{sentence_found}
+use Rattle.expression.specs.Tree.{size, specials, records}
+use Rattle.expression.specs.Grammar.{Alt, Reads}
+use Rattle.expression.specs.Scan.{scanned, is_sentence}
+use Rattle.expression.specs.TreeOf.{tree_of}
+use Rattle.expression.specs.declared.ScanResult.TheVariants.{Complete}
+use Rattle.expression.proofs.OneReading.{tree_is, sentence_reads}
+use Rattle.expression.proofs.ScanAccepts.{sentence_found}
 use Rattle.replacement.specs.Pieces.{pieces, shape}
 use Rattle.replacement.specs.Graft.{graft_nodes, place, total, operand_at, grafted, more_nodes, more_specials}
 use Rattle.replacement.proofs.ShapeLaws.{counts_add}

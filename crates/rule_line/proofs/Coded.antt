@@ -6,13 +6,13 @@ use mathlib.Core.Bool.{true, false}
 use mathlib.Core.List.{List, map}
 use lib.ListN.{length, take}
 use borrow.Author.Tests.{lt-ltb, le-ltb}
-use Rattle.regex.specs.Tree.{Tree, size, below, specials, records}
-use Rattle.regex.specs.Grammar.{Alt, Reads}
-use Rattle.regex.specs.Scan.{scanned, finds, is_sentence}
-use Rattle.regex.specs.TreeOf.{tree_of}
-use Rattle.regex.specs.OrderComputed.{unordered_at}
-use Rattle.regex.specs.StarsComputed.{double_at}
-use Rattle.regex.specs.declared.ScanResult.TheVariants.{Complete, Broken}
+use Rattle.expression.specs.Tree.{Tree, size, below, specials, records}
+use Rattle.expression.specs.Grammar.{Alt, Reads}
+use Rattle.expression.specs.Scan.{scanned, finds, is_sentence}
+use Rattle.expression.specs.TreeOf.{tree_of}
+use Rattle.expression.specs.OrderComputed.{unordered_at}
+use Rattle.expression.specs.StarsComputed.{double_at}
+use Rattle.expression.specs.declared.ScanResult.TheVariants.{Complete, Broken}
 use Rattle.rule.proofs.Answered.{complete}
 use Rattle.replacement.specs.Pieces.{pieces, shape}
 use Rattle.replacement.specs.Graft.{more_nodes}

@@ -7,10 +7,10 @@ use mathlib.Core.List.{List, [], ◌∷◌, ◌++◌, append_assoc, append-nil}
 use lib.ListN.{length, get_or, take, drop, set, length-append}
 use lib.Seq.{sets, take-suc, take-add, get_or-take, length-take-le}
 use mathlib.Core.Bool.{true, false}
-use Rattle.regex.specs.Tree.{node_record}
-use Rattle.regex.specs.declared.Kind.{Kind}
-use Rattle.regex.specs.declared.Kind.TheVariants.{Empty}
-use Rattle.regex.specs.declared.Node.{Node}
+use Rattle.expression.specs.Tree.{node_record}
+use Rattle.expression.specs.declared.Kind.{Kind}
+use Rattle.expression.specs.declared.Kind.TheVariants.{Empty}
+use Rattle.expression.specs.declared.Node.{Node}
 use Rattle.replacement.specs.Graft.{shift_nodes}
 use Rattle.rule_line.specs.Coding.{Near, is_epsilon, line_at, named_line, nodes_for, grown, Room, grafted_nodes, no_nodes, InShape, Graftable}
 use Rattle.rule_line.specs.declared.LineNodes.{LineNodes}

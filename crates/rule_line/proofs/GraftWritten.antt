@@ -7,16 +7,16 @@ use mathlib.Core.List.{List, [], ◌∷◌, ◌++◌, map}
 use lib.ListN.{length, get_or, take, length-append}
 use lib.Seq.{get_or-take, length-take-le}
 use Rattle.event.proofs.Tests.{T_of}
-use Rattle.regex.specs.Tree.{Tree, records, node_record}
-use Rattle.regex.specs.Grammar.{Level, Reads, alt_conj, alt_bar, conj_seq, conj_amp, seq_pre, seq_more, pre_post, pre_bang, post_atom}
-use Rattle.regex.specs.Grammar.{post_star, atom_letter, atom_any, atom_set, atom_empty, atom_epsilon, atom_group}
-use Rattle.regex.specs.declared.Kind.{Kind}
-use Rattle.regex.specs.declared.Kind.TheVariants.{Empty, Epsilon, Letter, Union, Intersection, Concatenation, Complement, Star}
-use Rattle.regex.specs.declared.Node.{Node}
-use Rattle.regex.specs.Scan.{is_sentence}
-use Rattle.regex.specs.TreeOf.{tree_of}
-use Rattle.regex.proofs.Texts.{nonempty}
-use Rattle.regex.proofs.OneReading.{sentence_reads}
+use Rattle.expression.specs.Tree.{Tree, records, node_record}
+use Rattle.expression.specs.Grammar.{Level, Reads, alt_conj, alt_bar, conj_seq, conj_amp, seq_pre, seq_more, pre_post, pre_bang, post_atom}
+use Rattle.expression.specs.Grammar.{post_star, atom_letter, atom_any, atom_set, atom_empty, atom_epsilon, atom_group}
+use Rattle.expression.specs.declared.Kind.{Kind}
+use Rattle.expression.specs.declared.Kind.TheVariants.{Empty, Epsilon, Letter, Union, Intersection, Concatenation, Complement, Star}
+use Rattle.expression.specs.declared.Node.{Node}
+use Rattle.expression.specs.Scan.{is_sentence}
+use Rattle.expression.specs.TreeOf.{tree_of}
+use Rattle.expression.proofs.Texts.{nonempty}
+use Rattle.expression.proofs.OneReading.{sentence_reads}
 use Rattle.replacement.specs.Pieces.{Piece, own, named, pieces, shape, shape_of}
 use Rattle.replacement.specs.Graft.{graft_kind, graft_nodes, shift_nodes, place, operand, operand_at}
 use Rattle.replacement.proofs.GraftRecords.{shift_records}

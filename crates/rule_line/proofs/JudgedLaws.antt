@@ -10,16 +10,16 @@ use borrow.Author.Tests.{ltb-true, ltb-false, eq-eqb, ne_eqb, lt-ltb, le-ltb}
 use Rattle.event.specs.Leading.{leading}
 use Rattle.event.proofs.LeadingLaws.{leading_found, leading_is}
 use Rattle.event.proofs.Tests.{choose}
-use Rattle.regex.specs.Tree.{Tree, size, specials}
-use Rattle.regex.specs.Scan.{is_sentence}
-use Rattle.regex.specs.TreeOf.{tree_of}
-use Rattle.regex.specs.Unordered.{Unordered, Ordered}
-use Rattle.regex.specs.OrderComputed.{unordered_at}
-use Rattle.regex.specs.Stars.{Double, NoDouble}
-use Rattle.regex.specs.StarsComputed.{double_at}
-use Rattle.regex.proofs.OneReading.{tree_is}
-use Rattle.regex.proofs.UnorderedLaws.{ordered_all, ordered_is}
-use Rattle.regex.proofs.DoubleLaws.{no_double_lem, none_is}
+use Rattle.expression.specs.Tree.{Tree, size, specials}
+use Rattle.expression.specs.Scan.{is_sentence}
+use Rattle.expression.specs.TreeOf.{tree_of}
+use Rattle.expression.specs.Unordered.{Unordered, Ordered}
+use Rattle.expression.specs.OrderComputed.{unordered_at}
+use Rattle.expression.specs.Stars.{Double, NoDouble}
+use Rattle.expression.specs.StarsComputed.{double_at}
+use Rattle.expression.proofs.OneReading.{tree_is}
+use Rattle.expression.proofs.UnorderedLaws.{ordered_all, ordered_is}
+use Rattle.expression.proofs.DoubleLaws.{no_double_lem, none_is}
 use Rattle.rule.specs.RuleMeaning.{FitsLength}
 use Rattle.replacement.specs.Replaced.{Replaced, ends, byte, name, Formed}
 use Rattle.replacement.specs.Pieces.{pieces_from, pieces, shape}

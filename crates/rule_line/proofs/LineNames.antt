@@ -11,7 +11,7 @@ use lib.ListN.{length, get_or, drop, drop_of_length-le}
 use borrow.Author.Tests.{eqb-true, eq-eqb, ne_eqb}
 use Rattle.event.proofs.Tails.{rest_at}
 use Rattle.event.proofs.Tests.{and_split, T_of, of_T, choose}
-use Rattle.regex.specs.Grammar.{Alt, Reads, Sentence}
+use Rattle.expression.specs.Grammar.{Alt, Reads, Sentence}
 use Rattle.replacement.specs.Pieces.{Piece, own, named}
 use Rattle.replacement.proofs.PieceLaws.{Names}
 use Rattle.rule_line.specs.Lines.{Line}

@@ -11,16 +11,16 @@ use lib.Seq.{sets, sets-eq, take_all, length-take-le, drop_at}
 use borrow.Author.Tests.{lt-ltb, le-ltb}
 use Rattle.event.specs.Leading.{leading}
 use Rattle.event.proofs.Tests.{and_split, T_of, of_T}
-use Rattle.regex.specs.Tree.{size, specials, records}
-use Rattle.regex.specs.Scan.{scanned}
-use Rattle.regex.specs.TreeOf.{tree_of}
-use Rattle.regex.specs.OrderComputed.{unordered_at}
-use Rattle.regex.specs.StarsComputed.{double_at}
-use Rattle.regex.specs.declared.Kind.TheVariants.{Empty}
-use Rattle.regex.specs.declared.Node.{Node}
-use Rattle.regex.specs.declared.ScanResult.{ScanResult}
-use Rattle.regex.specs.declared.ScanResult.TheVariants.{Complete, Broken}
-use Rattle.regex.proofs.RecordLaws.{records_length}
+use Rattle.expression.specs.Tree.{size, specials, records}
+use Rattle.expression.specs.Scan.{scanned}
+use Rattle.expression.specs.TreeOf.{tree_of}
+use Rattle.expression.specs.OrderComputed.{unordered_at}
+use Rattle.expression.specs.StarsComputed.{double_at}
+use Rattle.expression.specs.declared.Kind.TheVariants.{Empty}
+use Rattle.expression.specs.declared.Node.{Node}
+use Rattle.expression.specs.declared.ScanResult.{ScanResult}
+use Rattle.expression.specs.declared.ScanResult.TheVariants.{Complete, Broken}
+use Rattle.expression.proofs.RecordLaws.{records_length}
 use Rattle.rule.specs.RuleAnswer.{unused}
 use Rattle.rule_line.specs.Lines.{Line, refusal_number}
 use Rattle.rule_line.specs.LineMeaning.{is_written, LegalText}

@@ -7,11 +7,11 @@ use mathlib.Core.List.{List, [], ◌∷◌}
 use lib.ListN.{length, get_or, take, length-append, length-replicate, get_or-eq_default}
 use lib.Seq.{sets, get_or-take, length-take-le, take-append_seam}
 use borrow.Author.Tests.{lt-ltb, le-ltb}
-use Rattle.regex.specs.Tree.{size, specials, records}
-use Rattle.regex.specs.Grammar.{Alt, Reads}
-use Rattle.regex.specs.TreeOf.{tree_of}
-use Rattle.regex.specs.declared.Node.{Node}
-use Rattle.regex.proofs.RecordLaws.{records_length}
+use Rattle.expression.specs.Tree.{size, specials, records}
+use Rattle.expression.specs.Grammar.{Alt, Reads}
+use Rattle.expression.specs.TreeOf.{tree_of}
+use Rattle.expression.specs.declared.Node.{Node}
+use Rattle.expression.proofs.RecordLaws.{records_length}
 use Rattle.rule.specs.RuleAnswer.{unused}
 use Rattle.rule.specs.Reader.{Readable, nodes_read}
 use Rattle.rule.proofs.Answered.{complete}

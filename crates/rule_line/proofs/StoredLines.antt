@@ -6,10 +6,10 @@ use mathlib.Core.Path.{◌≡◌, refl, sym, ap, subst, ◌∙◌}
 use mathlib.Core.List.{List, [], ◌∷◌, ◌++◌, map}
 use lib.ListN.{length, get_or, take, length-append, length-replicate}
 use lib.Seq.{take-append_seam}
-use Rattle.regex.specs.Tree.{Tree, empty, size, records}
-use Rattle.regex.specs.Grammar.{Alt, Reads}
-use Rattle.regex.specs.declared.Node.{Node}
-use Rattle.regex.proofs.RecordLaws.{records_length}
+use Rattle.expression.specs.Tree.{Tree, empty, size, records}
+use Rattle.expression.specs.Grammar.{Alt, Reads}
+use Rattle.expression.specs.declared.Node.{Node}
+use Rattle.expression.proofs.RecordLaws.{records_length}
 use Rattle.rule.specs.RuleAnswer.{unused}
 use Rattle.rule_line.specs.Lines.{Line, line_nodes, unused_lines}
 use Rattle.rule_line.specs.Coding.{Near, line_at}

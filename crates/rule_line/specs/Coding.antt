@@ -1,10 +1,10 @@
 -- What the private functions of the reader do, which a buyer needn't read. Assumes nothing.
 use Rattle.std.specs.Prelude.{ℕ, zero, suc, ◌+◌, ◌-◌, ◌*◌, ◌≤◌, ◌<◌, ◌≡◌, Bool, true, false, cond, List, [], ◌∷◌, ◌++◌, map, length, get_or, take, drop}
 use Rattle.std.proofs.lemmas.List.Edits.{sets}
-use Rattle.regex.specs.declared.Kind.{Kind}
-use Rattle.regex.specs.declared.Kind.TheVariants.{Empty, Epsilon, Letter, Union, Intersection, Concatenation, Complement, Star}
-use Rattle.regex.specs.Tree.{node_record}
-use Rattle.regex.specs.declared.Node.{Node}
+use Rattle.expression.specs.declared.Kind.{Kind}
+use Rattle.expression.specs.declared.Kind.TheVariants.{Empty, Epsilon, Letter, Union, Intersection, Concatenation, Complement, Star}
+use Rattle.expression.specs.Tree.{node_record}
+use Rattle.expression.specs.declared.Node.{Node}
 use Rattle.rule.specs.RuleAnswer.{unused}
 use Rattle.replacement.specs.Graft.{shift_nodes}
 use Rattle.replacement.specs.Pieces.{Piece, own, named, pieces, shape_of}

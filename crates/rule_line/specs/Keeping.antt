@@ -2,12 +2,12 @@
 -- Assumes nothing.
 use Rattle.std.specs.Prelude.{ℕ, suc, ◌+◌, ◌-◌, ◌*◌, ◌≤◌, ◌<◌, ◌≡◌, false, cond, List, [], ◌∷◌, ◌++◌, map, length, get_or, ltb}
 use Rattle.std.proofs.lemmas.List.Edits.{sets}
-use Rattle.regex.specs.Tree.{Tree, size, below, specials, records}
-use Rattle.regex.specs.Grammar.{Alt, Reads}
-use Rattle.regex.specs.Scan.{scanned}
-use Rattle.regex.specs.TreeOf.{tree_of}
-use Rattle.regex.specs.declared.Node.{Node}
-use Rattle.regex.specs.declared.ScanResult.TheVariants.{Complete}
+use Rattle.expression.specs.Tree.{Tree, size, below, specials, records}
+use Rattle.expression.specs.Grammar.{Alt, Reads}
+use Rattle.expression.specs.Scan.{scanned}
+use Rattle.expression.specs.TreeOf.{tree_of}
+use Rattle.expression.specs.declared.Node.{Node}
+use Rattle.expression.specs.declared.ScanResult.TheVariants.{Complete}
 use Rattle.rule.specs.RuleAnswer.{unused}
 use Rattle.rule_line.specs.Lines.{Line, line_nodes, unused_lines, refusal_number}
 use Rattle.rule_line.specs.LineComputed.{has, bad, good, judged}

@@ -2,11 +2,11 @@
 use Rattle.std.specs.Prelude.{ℕ, suc, Bool, true, false, cond, ◌&&◌, List, [], ◌∷◌, ltb, eqb, length, get_or, drop}
 use Rattle.event.specs.Leading.{leading}
 use Rattle.event.specs.Text.{not_newline}
-use Rattle.regex.specs.Tree.{Tree, size, specials}
-use Rattle.regex.specs.TreeOf.{tree_of}
-use Rattle.regex.specs.Scan.{is_sentence}
-use Rattle.regex.specs.OrderComputed.{unordered_at}
-use Rattle.regex.specs.StarsComputed.{double_at}
+use Rattle.expression.specs.Tree.{Tree, size, specials}
+use Rattle.expression.specs.TreeOf.{tree_of}
+use Rattle.expression.specs.Scan.{is_sentence}
+use Rattle.expression.specs.OrderComputed.{unordered_at}
+use Rattle.expression.specs.StarsComputed.{double_at}
 use Rattle.replacement.specs.Pieces.{Piece, own, named, name_length, pieces, shape, filled}
 use Rattle.rule_line.specs.Lines.{Line}
 use Rattle.rule_line.specs.LineMeaning.{is_written}

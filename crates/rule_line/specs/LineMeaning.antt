@@ -1,8 +1,8 @@
 -- What a line of a rule file is, and its rule, below lines that have passed: document 02, request b). Assumes nothing.
 use Rattle.std.specs.Prelude.{ℕ, ◌<◌, ◌≡◌, Bool, true, false, ◌||◌, eqb, length, get_or}
 use mathlib.Core.List.{List, [], ◌∷◌, ◌++◌, Memᴰ}
-use Rattle.regex.specs.Tree.{Tree}
-use Rattle.regex.specs.Grammar.{Alt, Reads}
+use Rattle.expression.specs.Tree.{Tree}
+use Rattle.expression.specs.Grammar.{Alt, Reads}
 use Rattle.rule.specs.RuleAnswer.{is_rule_byte}
 use Rattle.rule.specs.RuleMeaning.{FitsLength}
 use Rattle.replacement.specs.Replaced.{Name, is_angle, angled, Replaced}

@@ -1,7 +1,7 @@
 -- A line of a rule file that has passed, what is answered of it, and the numbers of the refusals of a line, by documents 01 and 02.
 -- Assumes nothing.
 use Rattle.std.specs.Prelude.{ℕ, ◌-◌, List, ◌++◌, replicate}
-use Rattle.regex.specs.Tree.{Tree, size, specials, records}
+use Rattle.expression.specs.Tree.{Tree, size, specials, records}
 use Rattle.rule.specs.RuleAnswer.{unused}
 use Rattle.rule_line.specs.declared.LineNodes.{LineNodes}
 use Rattle.rule_line.specs.declared.Refusal.{Refusal}

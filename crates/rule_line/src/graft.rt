@@ -1,12 +1,12 @@
 // The records of a line, from those of its shape and of the lines that it names.
 ghost use Rattle.std.specs.Prelude.{◌≡◌, ◌+◌, ◌-◌, ◌≤◌, ◌<◌, length, take};
 ghost use Rattle.std.proofs.lemmas.List.Edits.{sets};
-ghost use Rattle.regex.specs.Tree.{node_record};
+ghost use Rattle.expression.specs.Tree.{node_record};
 ghost use Rattle.replacement.specs.Graft.{shift_nodes};
 ghost use Rattle.rule_line.specs.Coding.{Near, is_epsilon, Room, grown, nodes_for, no_nodes, grafted_nodes, Graftable};
 
 use crate::LineNodes;
-use regex::{Kind, Node};
+use expression::{Kind, Node};
 
 // Writes the first m records of a line, moved by d, from the record `written` on.
 fn put_line(nodes: [Node; 64], written: usize, source: [Node; 64], m: usize, d: usize) -> [Node; 64]

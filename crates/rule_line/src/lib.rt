@@ -6,7 +6,7 @@ mod shape;
 mod sums;
 pub mod text;
 
-use regex::Node;
+use expression::Node;
 
 // Why a line of a rule file is refused.
 #[derive(Drop)]

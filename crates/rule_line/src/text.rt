@@ -10,7 +10,7 @@ use crate::graft::graft;
 use crate::shape::cut;
 use crate::sums::{all_known, sum_pieces};
 use crate::{LineNodes, Refusal};
-use regex::{Kind, Node, ScanResult};
+use expression::{Kind, Node, ScanResult};
 use rule::order::find_unordered;
 use rule::stars::find_double;
 

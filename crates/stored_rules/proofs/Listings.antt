@@ -6,7 +6,7 @@ use mathlib.Core.Bool.{true≢false}
 use mathlib.Core.List.{List, ◌++◌, map}
 use lib.ListN.{length, get_or}
 use Rattle.event.specs.Event.{is_event, Word}
-use Rattle.regex.specs.Tree.{Tree}
+use Rattle.expression.specs.Tree.{Tree}
 use Rattle.rule.specs.RuleAnswer.{is_rule_byte}
 use Rattle.rule.specs.RuleMeaning.{Legal}
 use Rattle.day.specs.DayFile.{DayEvent, letter_of}

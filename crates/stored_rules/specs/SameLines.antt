@@ -1,7 +1,7 @@
 -- A job that has the same `S` lines as a listing. Assumes nothing.
 use Rattle.std.specs.Prelude.{ℕ, ◌≤◌, ◌≡◌, List, ◌∷◌, ◌++◌, length}
 use Rattle.event.specs.Event.{Word}
-use Rattle.regex.specs.Tree.{Tree, size, specials}
+use Rattle.expression.specs.Tree.{Tree, size, specials}
 use Rattle.work.specs.Spans.{Spans}
 use Rattle.listing.specs.declared.Heading.{Heading}
 use Rattle.listing.specs.Lines.{head_line, span_lines}

@@ -13,7 +13,7 @@ use Rattle.bits.specs.Runs.{Small}
 use Rattle.bits.proofs.Packed.{packed_is, run_small}
 use Rattle.event.specs.Event.{Word}
 use Rattle.event.proofs.Tests.{T_of, of_T, same_test}
-use Rattle.regex.specs.Tree.{Tree}
+use Rattle.expression.specs.Tree.{Tree}
 use Rattle.work.specs.Span.{Obeys}
 use Rattle.work.specs.Table.{position, block_length, HoldsBlock}
 use Rattle.work.specs.TableComputed.{obeys, start_of, end_of, block, blocks}

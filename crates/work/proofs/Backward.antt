@@ -6,8 +6,8 @@ use native.Mathlib.Omega.{arith}
 use lib.ListN.{length}
 use lib.Seq.{slice}
 use Rattle.event.specs.Event.{Word}
-use Rattle.regex.specs.Tree.{Tree, empty, epsilon, letter, union, intersection, concatenation, complement, star, size}
-use Rattle.regex.specs.Lang.{Power, Lang}
+use Rattle.expression.specs.Tree.{Tree, empty, epsilon, letter, union, intersection, concatenation, complement, star, size}
+use Rattle.expression.specs.Lang.{Power, Lang}
 use Rattle.work.specs.Span.{Obeys}
 use Rattle.work.specs.Walk.{entry, exit, Part, itself, union_left, union_right, concatenation_left, concatenation_right, star_inner, NodeMove}
 use Rattle.work.specs.Walk.{epsilon_through, letter_use, union_to_left, union_to_right, union_left_out, union_right_out, concatenation_in}

@@ -9,11 +9,11 @@ use Rattle.bits.specs.Bit.{has_bit}
 use Rattle.event.specs.Event.{is_event}
 use Rattle.event.specs.LetterSets.{holds, bit_of}
 use Rattle.event.specs.Text.{bytes}
-use Rattle.regex.specs.Accept.{accepts}
-use Rattle.regex.specs.Leaves.{leaf_at}
-use Rattle.regex.specs.Parse.{parse}
-use Rattle.regex.specs.TreeOf.{tree_of}
-use Rattle.regex.specs.Scan.{scan_from, is_sentence}
+use Rattle.expression.specs.Accept.{accepts}
+use Rattle.expression.specs.Leaves.{leaf_at}
+use Rattle.expression.specs.Parse.{parse}
+use Rattle.expression.specs.TreeOf.{tree_of}
+use Rattle.expression.specs.Scan.{scan_from, is_sentence}
 use Rattle.work.specs.SpansComputed.{obeying}
 use Rattle.work.specs.Count.{full_count}
 use Rattle.work.specs.KnownDays.{Day, days}

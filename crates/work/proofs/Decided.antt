@@ -8,13 +8,13 @@ use native.Mathlib.Decide.{dec_le}
 use lib.Dec.{T, eqb, eqb→eq, eqb_refl}
 use lib.ListN.{length}
 use lib.Seq.{slice}
-use Rattle.regex.specs.Tree.{Tree}
+use Rattle.expression.specs.Tree.{Tree}
 use Rattle.event.specs.Event.{Word}
-use Rattle.regex.specs.Accept.{accepts}
+use Rattle.expression.specs.Accept.{accepts}
 use Rattle.work.proofs.At.{Exit}
 use Rattle.work.specs.Count.{any_to, exits}
 use Rattle.event.proofs.Tests.{and_split, and_join, or_split, or_left, or_right}
-use Rattle.regex.proofs.LangDecided.{decides}
+use Rattle.expression.proofs.LangDecided.{decides}
 
 -- F decides E among the numbers of the word
 abbrev pub DecidedBy : Word → (ℕ → Bool) → (ℕ → Type 0) → Type 0

@@ -8,10 +8,10 @@ use Rattle.event.specs.Event.{is_event}
 use Rattle.event.specs.Leading.{leading}
 use Rattle.event.specs.LetterSets.{holds, bit_of, gathered}
 use Rattle.event.specs.Text.{bytes}
-use Rattle.regex.specs.Accept.{accepts}
-use Rattle.regex.specs.Leaves.{leaf_at}
-use Rattle.regex.specs.Parse.{parse}
-use Rattle.regex.specs.TreeOf.{tree_of}
+use Rattle.expression.specs.Accept.{accepts}
+use Rattle.expression.specs.Leaves.{leaf_at}
+use Rattle.expression.specs.Parse.{parse}
+use Rattle.expression.specs.TreeOf.{tree_of}
 use Rattle.work.specs.Count.{full_count}
 
 -- "`1*` has count 4 on the empty word and must finish"

@@ -11,9 +11,9 @@ use Rattle.bits.proofs.Tally.{tally_same, tally_none, tally_add}
 use Rattle.bits.proofs.Packed.{run_ones}
 use Rattle.event.specs.Event.{Word}
 use Rattle.event.proofs.Tests.{same_test}
-use Rattle.regex.specs.Tree.{Tree}
-use Rattle.regex.specs.Accept.{accepts}
-use Rattle.regex.proofs.LangDecided.{decides}
+use Rattle.expression.specs.Tree.{Tree}
+use Rattle.expression.specs.Accept.{accepts}
+use Rattle.expression.proofs.LangDecided.{decides}
 use Rattle.work.specs.Span.{Obeys}
 use Rattle.work.specs.SizeOf.{SizeOf}
 use Rattle.work.specs.Spans.{Spans}

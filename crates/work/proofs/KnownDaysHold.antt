@@ -7,10 +7,10 @@ use lib.Dec.{T}
 use Rattle.event.specs.Event.{Word}
 use Rattle.event.specs.Text.{bytes}
 use Rattle.event.proofs.Tests.{and_split}
-use Rattle.regex.specs.Tree.{Tree}
-use Rattle.regex.specs.TreeOf.{tree_of}
-use Rattle.regex.specs.Scan.{is_sentence}
-use Rattle.regex.proofs.OneReading.{sentence_reads}
+use Rattle.expression.specs.Tree.{Tree}
+use Rattle.expression.specs.TreeOf.{tree_of}
+use Rattle.expression.specs.Scan.{is_sentence}
+use Rattle.expression.proofs.OneReading.{sentence_reads}
 use Rattle.work.specs.Count.{full_count}
 use Rattle.work.specs.KnownDays.{Day, days, Counted, Right, AllRight, KnownDays}
 use Rattle.work.proofs.DaysWorked.{recount, worked, sentences, days_sentences, days_worked}

@@ -11,9 +11,9 @@ use lib.Dec.{T}
 use lib.ListN.{length}
 use lib.Seq.{slice}
 use Rattle.event.specs.Event.{Word}
-use Rattle.regex.specs.Tree.{Tree}
-use Rattle.regex.specs.Accept.{accepts}
-use Rattle.regex.proofs.LangDecided.{decides}
+use Rattle.expression.specs.Tree.{Tree}
+use Rattle.expression.specs.Accept.{accepts}
+use Rattle.expression.proofs.LangDecided.{decides}
 use Rattle.work.specs.Span.{Obeys}
 use Rattle.work.specs.SizeOf.{Once, SizeOf}
 use Rattle.work.specs.Spans.{Spans, Before, InOrder}

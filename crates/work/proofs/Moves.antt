@@ -5,7 +5,7 @@ use Prim.Native.Nat.{ℕ, ◌+◌, ◌*◌, ◌≤◌, ◌<◌}
 use native.Mathlib.Omega.{arith}
 use lib.ListN.{length}
 use Rattle.event.specs.Event.{Word}
-use Rattle.regex.specs.Tree.{Tree, empty, epsilon, letter, union, intersection, concatenation, complement, star, size}
+use Rattle.expression.specs.Tree.{Tree, empty, epsilon, letter, union, intersection, concatenation, complement, star, size}
 use Rattle.work.specs.Walk.{entry, exit, Part, itself, union_left, union_right, intersection_left, intersection_right, concatenation_left}
 use Rattle.work.specs.Walk.{concatenation_right, complement_inner, star_inner, NodeMove, epsilon_through, letter_use, union_to_left}
 use Rattle.work.specs.Walk.{union_to_right, union_left_out, union_right_out, concatenation_in, concatenation_over, concatenation_out, star_in}

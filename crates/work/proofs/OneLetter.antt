@@ -11,8 +11,8 @@ use Rattle.event.specs.declared.sets.LetterSet.{LetterSet}
 use Rattle.event.specs.SetParts.{is_in, OneOf}
 use Rattle.event.proofs.SetLaws.{holds_event, single_holds, every_holds, letters_hold}
 use Rattle.event.proofs.Tests.{of_T, T_of}
-use Rattle.regex.specs.Tree.{letter}
-use Rattle.regex.specs.Lang.{Lang}
+use Rattle.expression.specs.Tree.{letter}
+use Rattle.expression.specs.Lang.{Lang}
 use Rattle.work.specs.Walk.{Fits}
 
 -- 02 e): "Rules without the new signs give the tables and counts they gave": the walk moves at a single letter if the next event "is the letter"

@@ -8,7 +8,7 @@ use native.Mathlib.Decide.{dec_lt}
 use native.Mathlib.Nat.{eq-or-lt_of_le}
 use lib.Dec.{ltb}
 use borrow.Author.Tests.{lt-ltb, le-ltb}
-use Rattle.regex.specs.Tree.{Tree, empty, epsilon, letter, union, intersection, concatenation, complement, star, below, size}
+use Rattle.expression.specs.Tree.{Tree, empty, epsilon, letter, union, intersection, concatenation, complement, star, below, size}
 use Rattle.work.specs.Walk.{Owner, whole, special}
 use Rattle.work.specs.Owned.{Owns, of_rule, of_union_left, of_union_right, of_concatenation_left}
 use Rattle.work.specs.Owned.{of_concatenation_right, of_star, of_intersection_left, of_intersection_right, of_complement, StateOf}

@@ -5,10 +5,10 @@ use Prim.Native.Nat.{ℕ, ◌+◌}
 use native.Mathlib.Omega.{arith}
 use lib.ListN.{length, drop, length-append}
 use lib.Seq.{slice, take_at, drop_at}
-use Rattle.regex.specs.declared.Kind.TheVariants.{Union, Intersection, Concatenation, Complement, Star}
-use Rattle.regex.specs.declared.Node.{Node}
-use Rattle.regex.specs.Tree.{Tree, size, node_record, records}
-use Rattle.regex.proofs.RecordLaws.{records_length}
+use Rattle.expression.specs.declared.Kind.TheVariants.{Union, Intersection, Concatenation, Complement, Star}
+use Rattle.expression.specs.declared.Node.{Node}
+use Rattle.expression.specs.Tree.{Tree, size, node_record, records}
+use Rattle.expression.proofs.RecordLaws.{records_length}
 use Rattle.work.specs.Walk.{Part, itself, union_left, union_right, intersection_left, intersection_right, concatenation_left}
 use Rattle.work.specs.Walk.{concatenation_right, complement_inner, star_inner}
 

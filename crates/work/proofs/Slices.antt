@@ -6,7 +6,7 @@ use native.Mathlib.Omega.{arith}
 use lib.Dec.{T}
 use lib.ListN.{length, get_or, take, drop, length-append}
 use lib.Seq.{slice, slice_empty, slice-cons, length-slice, take-nil, drop-nil, take_at, drop_at}
-use Rattle.regex.specs.Tree.{Tree, epsilon, letter, concatenation, star}
+use Rattle.expression.specs.Tree.{Tree, epsilon, letter, concatenation, star}
 use Rattle.event.specs.Event.{Word}
 use Rattle.event.specs.LetterSets.{holds}
 use Rattle.event.specs.declared.sets.LetterSet.{LetterSet}

@@ -4,7 +4,7 @@ use mathlib.Core.Logic.{inl, inr, ⊎_elim}
 use Prim.Native.Nat.{ℕ, ◌+◌, ◌≤◌}
 use lib.ListN.{length}
 use Rattle.event.specs.Event.{Word}
-use Rattle.regex.specs.Tree.{Tree, empty, epsilon, letter, union, intersection, concatenation, complement, star, size}
+use Rattle.expression.specs.Tree.{Tree, empty, epsilon, letter, union, intersection, concatenation, complement, star, size}
 use Rattle.work.specs.Walk.{Owner, whole, special}
 use Rattle.work.specs.Owned.{Owns, of_rule, of_union_left, of_union_right, of_concatenation_left}
 use Rattle.work.specs.Walk.{Reaches}

@@ -13,9 +13,9 @@ use Rattle.bits.specs.Runs.{Small}
 use Rattle.bits.proofs.Packed.{run_length, run_bit, bit_front, bit_behind, run_small, append_small}
 use Rattle.event.specs.Event.{Word}
 use Rattle.event.proofs.Tests.{and_split, and_join, T_of, of_T}
-use Rattle.regex.specs.Tree.{Tree, empty, epsilon, letter, union, intersection, concatenation, complement, star, specials}
-use Rattle.regex.specs.Accept.{accepts}
-use Rattle.regex.proofs.LangDecided.{decides}
+use Rattle.expression.specs.Tree.{Tree, empty, epsilon, letter, union, intersection, concatenation, complement, star, specials}
+use Rattle.expression.specs.Accept.{accepts}
+use Rattle.expression.proofs.LangDecided.{decides}
 use Rattle.work.specs.Span.{Obeys}
 use Rattle.work.specs.Table.{position, block_length, HoldsBlock, need_of}
 use Rattle.work.specs.TableComputed.{obeys, start_of, end_of, block, special_parts, blocks, table}

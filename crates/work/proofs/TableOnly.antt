@@ -12,7 +12,7 @@ use Rattle.bits.specs.Runs.{Small}
 use Rattle.bits.proofs.Packed.{packed_is, run_at}
 use Rattle.event.specs.Event.{Word}
 use Rattle.event.proofs.Tests.{T_of, of_T, same_test}
-use Rattle.regex.specs.Tree.{Tree, specials}
+use Rattle.expression.specs.Tree.{Tree, specials}
 use Rattle.work.specs.Table.{position, block_length, HoldsBlock, need_of}
 use Rattle.work.specs.TableComputed.{obeys, start_of, end_of, block, special_parts, blocks, table}
 use Rattle.work.proofs.TableLaws.{obeys_eq, block_length_lem, parts_length, table_length}

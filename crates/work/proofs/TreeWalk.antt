@@ -1,7 +1,7 @@
 -- The walk over one tree, from its entry: an owner's walk is the walk over the rule or over a side of its node. Assumes nothing.
 use Prim.Native.Nat.{ℕ}
 use Rattle.event.specs.Event.{Word}
-use Rattle.regex.specs.Tree.{Tree}
+use Rattle.expression.specs.Tree.{Tree}
 use Rattle.work.specs.Walk.{entry, RuleMove}
 
 -- the places that the moves of t, whose records stand from x on, reach from its entry at number i

@@ -5,7 +5,7 @@ use mathlib.Core.Logic.{◌↔◌}
 use Prim.Native.Nat.{ℕ, ◌≤◌}
 use lib.ListN.{length}
 use Rattle.event.specs.Event.{Word}
-use Rattle.regex.specs.Tree.{Tree}
+use Rattle.expression.specs.Tree.{Tree}
 use Rattle.work.specs.Span.{Obeys}
 use Rattle.work.specs.Walk.{exit}
 use Rattle.work.proofs.At.{At}

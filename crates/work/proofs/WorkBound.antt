@@ -7,9 +7,9 @@ use native.Mathlib.Decide.{dec_le}
 use lib.Dec.{T, eqb, eqb→eq}
 use lib.ListN.{length}
 use lib.Seq.{slice}
-use Rattle.regex.specs.Tree.{Tree, empty, epsilon, letter, union, intersection, concatenation, complement, star, size}
+use Rattle.expression.specs.Tree.{Tree, empty, epsilon, letter, union, intersection, concatenation, complement, star, size}
 use Rattle.event.specs.Event.{Word}
-use Rattle.regex.specs.Accept.{accepts}
+use Rattle.expression.specs.Accept.{accepts}
 use Rattle.work.specs.Count.{sum_to, tally_to, exits, at_root, below_root, places, walks, special_walks, full_count}
 use Rattle.bits.specs.Runs.{indicator}
 use Rattle.event.proofs.Tests.{and_split}

@@ -4,8 +4,8 @@ use Rattle.std.specs.Prelude.{Bool, ◌&&◌, ◌||◌, ℕ, zero, suc, ◌+◌,
 use Rattle.std.proofs.Math.Seq.{slice}
 use Rattle.bits.specs.Runs.{indicator}
 use Rattle.event.specs.Event.{Word}
-use Rattle.regex.specs.Tree.{Tree, empty, epsilon, letter, union, intersection, concatenation, complement, star}
-use Rattle.regex.specs.Accept.{accepts}
+use Rattle.expression.specs.Tree.{Tree, empty, epsilon, letter, union, intersection, concatenation, complement, star}
+use Rattle.expression.specs.Accept.{accepts}
 
 -- over the numbers 0 to k: whether some passes, the sum of f, and how many pass
 abbrev pub any_to : ℕ → (ℕ → Bool) → Bool

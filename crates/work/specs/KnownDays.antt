@@ -6,8 +6,8 @@ use Rattle.std.proofs.Math.Option.{Option, none, some}
 use Prim.Native.String.{String}
 use Rattle.event.specs.Event.{Word}
 use Rattle.event.specs.Text.{bytes}
-use Rattle.regex.specs.Tree.{Tree}
-use Rattle.regex.specs.Grammar.{Alt, Reads}
+use Rattle.expression.specs.Tree.{Tree}
+use Rattle.expression.specs.Grammar.{Alt, Reads}
 use Rattle.work.specs.Span.{Obeys}
 use Rattle.work.specs.Spans.{Spans}
 use Rattle.work.specs.SizeOf.{SizeOf}

@@ -1,7 +1,7 @@
 -- Whose a state is. No walk asks: each goes from where its owner's walk begins; that it stays with its owner is `reaches_owner` in
 -- proofs/StateOwners. Assumes nothing.
 use Rattle.std.specs.Prelude.{◌≡◌, ◌⊎◌, ℕ, ◌+◌}
-use Rattle.regex.specs.Tree.{Tree, union, intersection, concatenation, complement, star, size, below}
+use Rattle.expression.specs.Tree.{Tree, union, intersection, concatenation, complement, star, size, below}
 use Rattle.work.specs.Walk.{Owner, whole, special, entry, exit}
 
 -- 01: "The owner of a state is the innermost special node that strictly contains the state's node, or the whole rule where there is none.

@@ -2,8 +2,8 @@
 use Rattle.std.specs.Prelude.{ℕ, ◌≤◌, length}
 use Rattle.std.proofs.Math.Seq.{slice}
 use Rattle.event.specs.Event.{Word}
-use Rattle.regex.specs.Tree.{Tree}
-use Rattle.regex.specs.Lang.{Lang}
+use Rattle.expression.specs.Tree.{Tree}
+use Rattle.expression.specs.Lang.{Lang}
 
 -- 01, The span table: "Span (i, j), with 0 ≤ i ≤ j ≤ n, is the events after the first i up to and including the j-th"
 -- 01, The walk: "A span obeys a rule, or the part of it that a node heads, if its events form a word in the language

@@ -2,8 +2,8 @@
 use Rattle.std.specs.Prelude.{[], ◌∷◌, Bool, cond, ℕ, zero, suc, length}
 use Rattle.std.proofs.Math.Seq.{slice}
 use Rattle.event.specs.Event.{Word}
-use Rattle.regex.specs.Tree.{Tree}
-use Rattle.regex.specs.Accept.{accepts}
+use Rattle.expression.specs.Tree.{Tree}
+use Rattle.expression.specs.Accept.{accepts}
 use Rattle.work.specs.Spans.{Spans}
 
 -- span (i, j) goes in front of the list if it obeys

@@ -2,7 +2,7 @@
 use Rattle.std.specs.Prelude.{◌≡◌, List, [], ◌∷◌, true, ℕ, ◌+◌, ◌*◌, suc, ◌≤◌, ◌<◌, T, length}
 use Rattle.bits.specs.Bit.{bit_at}
 use Rattle.event.specs.Event.{Word}
-use Rattle.regex.specs.Tree.{Tree, offset, is_special}
+use Rattle.expression.specs.Tree.{Tree, offset, is_special}
 use Rattle.work.specs.Span.{Obeys}
 use Rattle.work.specs.Walk.{Part}
 

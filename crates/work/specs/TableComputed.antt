@@ -6,8 +6,8 @@ use Rattle.std.proofs.Math.Seq.{slice}
 use Rattle.bits.specs.Bit.{ones_of}
 use Rattle.bits.specs.Runs.{packed_run}
 use Rattle.event.specs.Event.{Word}
-use Rattle.regex.specs.Tree.{Tree, empty, epsilon, letter, union, intersection, concatenation, complement, star}
-use Rattle.regex.specs.Accept.{accepts}
+use Rattle.expression.specs.Tree.{Tree, empty, epsilon, letter, union, intersection, concatenation, complement, star}
+use Rattle.expression.specs.Accept.{accepts}
 use Rattle.work.specs.Table.{block_length}
 
 -- span (i, j) is one of the word's and obeys

@@ -3,7 +3,7 @@ use Rattle.std.specs.Prelude.{ℕ, suc, ◌+◌, ◌*◌, ◌≤◌, ◌<◌, T,
 use Rattle.event.specs.Event.{Word}
 use Rattle.event.specs.LetterSets.{holds}
 use Rattle.event.specs.declared.sets.LetterSet.{LetterSet}
-use Rattle.regex.specs.Tree.{Tree, epsilon, letter, union, intersection, concatenation, complement, star, below, size}
+use Rattle.expression.specs.Tree.{Tree, epsilon, letter, union, intersection, concatenation, complement, star, below, size}
 use Rattle.work.specs.Span.{Obeys}
 
 -- "two states for every node, an entry and an exit": 2y and 2y + 1 for the node with the y-th record.

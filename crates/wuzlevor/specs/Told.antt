@@ -1,7 +1,7 @@
 -- Answers as rows of numbers. Assumes nothing.
 use Rattle.std.specs.Prelude.{ℕ, ◌+◌, ◌*◌, List, [], ◌∷◌, ◌++◌, length, take, drop}
-use Rattle.regex.specs.KindNumber.{kind_number}
-use Rattle.regex.specs.declared.Node.{Node}
+use Rattle.expression.specs.KindNumber.{kind_number}
+use Rattle.expression.specs.declared.Node.{Node}
 use Rattle.rule.specs.RuleAnswer.{RuleAnswer}
 use Rattle.rule_file.specs.FileAnswer.{FileAnswer}
 use Rattle.rule_line.specs.declared.LineNodes.{LineNodes}

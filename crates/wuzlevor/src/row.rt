@@ -3,7 +3,7 @@ ghost use Rattle.std.specs.Prelude.{◌≡◌, [], ◌∷◌, ◌++◌, ◌≤�
 ghost use Rattle.wuzlevor.specs.Told.{over, node_row, line_row, over_lines};
 ghost use Rattle.wuzlevor.specs.ExportComputed.{verdict_row, LinesFit};
 
-use regex::{Node, kind_number};
+use expression::{Node, kind_number};
 use rule_line::LineNodes;
 use verdict::Verdict;
 

@@ -4,7 +4,7 @@ use native.Mathlib.Omega.{arith}
 use mathlib.Core.Path.{sym, ap, ◌∙◌}
 use lib.ListN.{length}
 use borrow.Author.Tests.{lt-ltb, le-ltb}
-use Rattle.regex.specs.OrderComputed.{unordered_at}
+use Rattle.expression.specs.OrderComputed.{unordered_at}
 use Rattle.rule.specs.declared.Outcome.TheVariants.{Refused}
 use Rattle.rule.specs.declared.Refusal.TheVariants.{UnorderedSet}
 use Rattle.rule.proofs.check_order.Statement.{statement}

@@ -4,7 +4,7 @@ use mathlib.Core.Path.{◌≡◌, sym, ap, ◌∙◌}
 use lib.ListN.{length}
 use borrow.Author.Rules.{rules}
 use borrow.Author.Tests.{lt-ltb}
-use Rattle.regex.specs.StarsComputed.{double_at}
+use Rattle.expression.specs.StarsComputed.{double_at}
 use Rattle.rule.specs.RuleAnswer.{refusal, rule_values}
 use Rattle.rule.specs.declared.Outcome.TheVariants.{Accepted}
 use Rattle.rule.proofs.Answered.{answer_of, answer_after, past_stars, readable}

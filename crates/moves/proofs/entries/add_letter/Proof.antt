@@ -6,8 +6,8 @@ use native.Mathlib.Omega.{arith}
 use Rattle.bits.specs.Runs.{Adds}
 use Rattle.event.specs.LetterSets.{every}
 use Rattle.event.specs.declared.sets.LetterSet.{LetterSet}
-use Rattle.regex.specs.declared.Kind.{Kind}
-use Rattle.regex.specs.declared.Kind.TheVariants.{Letter}
+use Rattle.expression.specs.declared.Kind.{Kind}
+use Rattle.expression.specs.declared.Kind.TheVariants.{Letter}
 use Rattle.moves.specs.Moves.{KindLetter}
 use Rattle.moves.proofs.RecordLaws.{letter_none}
 use Rattle.moves.proofs.entries.add_letter.Statement.{statement}

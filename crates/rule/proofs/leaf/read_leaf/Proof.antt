@@ -2,7 +2,7 @@
 use borrow.Author.Tests.{ne_eqb}
 use borrow.Author.Rules.{rules}
 use Rattle.event.specs.LetterSets.{single}
-use Rattle.regex.specs.Leaves.{leaf_at}
+use Rattle.expression.specs.Leaves.{leaf_at}
 use Rattle.rule.proofs.leaf.read_leaf.Statement.{statement}
 use Rattle.rule.proofs.leaf.read_leaf.Tie as tie
 

@@ -11,7 +11,7 @@ use Rattle.event.specs.LetterSets.{letters_of}
 use Rattle.event.specs.declared.sets.LetterSet.{LetterSet}
 use Rattle.event.proofs.LeadingLaws.{leading_found}
 use Rattle.event.proofs.Tails.{tail, tail_is}
-use Rattle.regex.proofs.LeafLaws.{set_closed, set_open}
+use Rattle.expression.proofs.LeafLaws.{set_closed, set_open}
 use Rattle.rule.proofs.leaf.read_set.Statement.{statement}
 use Rattle.rule.proofs.leaf.read_set.Tie as tie
 

@@ -8,9 +8,9 @@ use lib.ListN.{length}
 use borrow.Author.Rules.{rules}
 use borrow.Fn.Kinds.{In}
 use borrow.Fn.PlainCycle.{Measures, is, falls, and}
-use Rattle.regex.specs.Parse.{Call, alt, alt_rest, conj, conj_rest, seq, seq_rest, pre, post, post_rest, atom, measure}
-use Rattle.regex.specs.declared.Leaf.{Leaf}
-use Rattle.regex.proofs.LeafLaws.{leaf_fits}
+use Rattle.expression.specs.Parse.{Call, alt, alt_rest, conj, conj_rest, seq, seq_rest, pre, post, post_rest, atom, measure}
+use Rattle.expression.specs.declared.Leaf.{Leaf}
+use Rattle.expression.proofs.LeafLaws.{leaf_fits}
 use Rattle.rule.specs.Reader.{at}
 use Rattle.rule.specs.declared.levels.Reading.{Reading}
 use Rattle.event.proofs.Tails.{tail_length}

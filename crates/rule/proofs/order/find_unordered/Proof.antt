@@ -4,8 +4,8 @@ use native.Mathlib.Omega.{arith}
 use mathlib.Core.Path.{◌≡◌, sym, ap, ◌∙◌}
 use lib.ListN.{length, drop}
 use borrow.Author.Rules.{rules}
-use Rattle.regex.specs.OrderComputed.{unordered_from, unordered_at}
-use Rattle.regex.proofs.UnorderedLaws.{unordered_on, unordered_here, unordered_end}
+use Rattle.expression.specs.OrderComputed.{unordered_from, unordered_at}
+use Rattle.expression.proofs.UnorderedLaws.{unordered_on, unordered_here, unordered_end}
 use Rattle.rule.proofs.order.find_unordered.Statement.{statement}
 use Rattle.rule.proofs.order.find_unordered.Tie as tie
 

@@ -2,8 +2,8 @@
 use mathlib.Core.Path.{sym, ap, ◌∙◌}
 use borrow.Author.Tests.{eq-eqb, ne_eqb}
 use borrow.Author.Rules.{rules}
-use Rattle.regex.specs.Scan.{finish_at}
-use Rattle.regex.specs.declared.Stage.{Stage}
+use Rattle.expression.specs.Scan.{finish_at}
+use Rattle.expression.specs.declared.Stage.{Stage}
 use Rattle.rule.proofs.scan.finish.Statement.{statement}
 use Rattle.rule.proofs.scan.finish.Tie as tie
 

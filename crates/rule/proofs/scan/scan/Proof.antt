@@ -4,7 +4,7 @@ use native.Mathlib.Omega.{arith}
 use mathlib.Core.Path.{◌≡◌, refl, sym, ◌∙◌}
 use lib.ListN.{length, drop, get_or}
 use borrow.Author.Rules.{rules}
-use Rattle.regex.specs.Scan.{scanned, scan_from}
+use Rattle.expression.specs.Scan.{scanned, scan_from}
 use Rattle.rule.proofs.ScanLaws.{near, turn_stuck, turn_on, turn_end}
 use Rattle.rule.proofs.scan.scan.Statement.{statement}
 use Rattle.rule.proofs.scan.scan.Tie as tie

@@ -1,8 +1,8 @@
 -- `step` is `step_of`. Assumes nothing.
 use mathlib.Core.Path.{sym, ap, ◌∙◌}
 use borrow.Author.Rules.{rules}
-use Rattle.regex.specs.Scan.{step_at}
-use Rattle.regex.specs.declared.Stage.{Stage}
+use Rattle.expression.specs.Scan.{step_at}
+use Rattle.expression.specs.declared.Stage.{Stage}
 use Rattle.rule.proofs.scan.step.Statement.{statement}
 use Rattle.rule.proofs.scan.step.Tie as tie
 

@@ -4,8 +4,8 @@ use native.Mathlib.Omega.{arith}
 use mathlib.Core.Path.{◌≡◌, sym, ◌∙◌}
 use lib.ListN.{length, drop}
 use borrow.Author.Rules.{rules}
-use Rattle.regex.specs.StarsComputed.{double_from, double_at}
-use Rattle.regex.proofs.DoubleLaws.{double_on, double_here, double_end}
+use Rattle.expression.specs.StarsComputed.{double_from, double_at}
+use Rattle.expression.proofs.DoubleLaws.{double_on, double_here, double_end}
 use Rattle.rule.proofs.stars.find_double.Statement.{statement}
 use Rattle.rule.proofs.stars.find_double.Tie as tie
 

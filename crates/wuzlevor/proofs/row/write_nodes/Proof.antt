@@ -1,9 +1,9 @@
 -- `write_nodes` stores two numbers for each record. Assumes nothing.
 use Prim.Native.Nat.{ℕ, ◌-◌, ◌*◌}
 use native.Mathlib.Omega.{arith}
-use Rattle.regex.specs.KindNumber.{kind_number}
-use Rattle.regex.specs.declared.Kind.TheVariants.{Empty}
-use Rattle.regex.specs.declared.Node.{Node}
+use Rattle.expression.specs.KindNumber.{kind_number}
+use Rattle.expression.specs.declared.Kind.TheVariants.{Empty}
+use Rattle.expression.specs.declared.Node.{Node}
 use lib.Seq.{lt-length-set}
 use borrow.Author.Rules.{rules}
 use Rattle.wuzlevor.proofs.RowLaws.{Writing, writing_begins, writing_on, writing_ends}

@@ -1,0 +1,12 @@
+-- `outcome_verdict` hands a refusal's verdict on. Assumes nothing.
+use mathlib.Core.Path.{sym, ap, ◌∙◌}
+use Rattle.day.specs.DayAnswer.{outcome_verdict}
+use Rattle.day.proofs.outcome_verdict.Goals as goal
+
+pub returns-in-Accepted : goal.returns-in-Accepted
+returns-in-Accepted c =
+    c.acceptance.ensures ∙ ap outcome_verdict (sym c.outcome-1.given.1)
+
+pub returns-in-Refused : goal.returns-in-Refused
+returns-in-Refused c =
+    c.refusal_verdict.ensures ∙ ap outcome_verdict (sym c.outcome-in-Refused-1.given.1)

@@ -1,0 +1,88 @@
+// Regular expressions: the records of their nodes, the leaf at the front of a rule text, and the states of the scan over a rule text, whose
+// theory stands here too.
+#![tactic(auto)]
+
+ghost use Rattle.std.specs.Prelude.{◌≡◌};
+ghost use Rattle.expression.specs.KindNumber.{kind_number};
+
+use event::sets::LetterSet;
+
+// What a node is: `0` is empty (no word), `1` is epsilon (the empty word), and a letter's kind carries a set of letters, any of which it fits.
+#[derive(Drop)]
+pub enum Kind {
+    Empty,
+    Epsilon,
+    Letter(LetterSet),
+    Union,
+    Intersection,
+    Concatenation,
+    Complement,
+    Star,
+}
+
+// A node record: the node's byte offset in the rule text, and its kind.
+#[derive(Drop)]
+pub struct Node {
+    pub offset: usize,
+    pub kind: Kind,
+}
+
+// The number of the set without letters, from which those of all sets count on; and how many sets there are.
+const FIRST_SET: u64 = 9223372036854775808;
+
+pub const SET_COUNT: u64 = 4503599627370496;
+
+// The number of a kind: a set's is 2 to the power 63 and its bits.
+pub fn kind_number(kind: Kind) -> u64
+    ensures { result ≡ kind_number kind }
+{
+    match kind {
+        Kind::Empty => 0,
+        Kind::Epsilon => 1,
+        Kind::Union => 2,
+        Kind::Intersection => 3,
+        Kind::Concatenation => 4,
+        Kind::Complement => 5,
+        Kind::Star => 6,
+        Kind::Letter(set) => FIRST_SET + set.bits % SET_COUNT,
+    }
+}
+
+// The leaf at the front of a text: how many bytes it has, and its kind.
+#[derive(Drop)]
+pub struct Leaf {
+    pub width: usize,
+    pub kind: Kind,
+}
+
+// Where a scan stands: an operand is expected, or has just ended; a bracket has just been opened, or has letters and may be closed.
+#[derive(Drop)]
+pub enum Stage {
+    Operand,
+    Ended,
+    Opened,
+    Letters,
+}
+
+// How far a scan has come: the open parentheses, where it stands, and the nodes and special nodes so far.
+#[derive(Drop)]
+pub struct ScanState {
+    pub depth: usize,
+    pub stage: Stage,
+    pub nodes: usize,
+    pub specials: usize,
+}
+
+// One byte's step of the scan: no sentence begins so, or the next state.
+#[derive(Drop)]
+pub enum ScanStep {
+    Stuck,
+    Next(ScanState),
+}
+
+// What a scan finds: a sentence with its numbers of nodes and of special nodes, or the place where it breaks off.
+#[derive(Drop)]
+pub enum ScanResult {
+    Complete(usize, usize),
+    Broken(usize),
+}
