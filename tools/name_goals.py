@@ -22,6 +22,10 @@ def norm(s):
     return s.replace("-", "_")
 
 
+def same(f, old):
+    return norm(f) == norm(old) or f.endswith("_lem") and norm(f[:-4]) == norm(old)
+
+
 def split_terms(text):
     """The arguments of an application: groups in parentheses and words."""
     terms, i, n = [], 0, len(text)
@@ -135,6 +139,16 @@ class Function:
             raise Fails("a part of several clauses")
         raise Fails(f"clause {fields}")
 
+    def arm(self, place, old, rest):
+        """What a step of the older form in an arm is called."""
+        while place is not None:
+            arms = self.r["arms"][self.index[place]]
+            for field, step, path in sorted(arms[2] if arms else [], key=lambda it: -len(it[2])):
+                if step == old and path and rest[: len(path)] == path:
+                    return [arms[0], field] + rest[len(path) :]
+            place = self.place[place][1]
+        return None
+
     def resolve(self, place, fields, goal_place):
         i = 0
         while i < len(fields) and fields[i] == "before":
@@ -144,7 +158,10 @@ class Function:
             return place, None
         f, rest = fields[0], fields[1:]
         old, new = self.place[place][2]
-        if old and norm(f) == norm(old):
+        if old and same(f, old):
+            arm = self.arm(goal_place, old, rest)
+            if arm:
+                return None, arm
             renames = dict((a, b) for a, b in self.place[place][4])
             if rest and rest[0] in renames:
                 rest = [renames[rest[0]]] + rest[1:]
@@ -154,10 +171,13 @@ class Function:
                         return None, ["type_inv", var] + rest[1:]
             if rest and rest[0] == "ensures":
                 rest = ["ensures"] + self.clause(place, rest[1:])
-            if rest and rest[0] == "new" and len(rest) > 1 and rest[1].isdigit():
+            if rest and rest[0] in ("new", "auto") and len(rest) > 1 and rest[1].isdigit():
                 names = self.r["params"].get(self.place[place][3] or "", None)
                 if names:
-                    rest = ["new", names[int(rest[1])]] + rest[2:]
+                    k = 1
+                    while k < len(rest) and rest[k] == "1" and k < len(names):
+                        k += 1
+                    rest = [rest[0], names[k - 1]] + rest[k + 1 if k < len(rest) and rest[k] == "0" else k :]
             return None, [new] + rest
         if place == "Start" or self.place[place][1] is None:
             if f in ("args", "requires", "ranges"):

@@ -5,8 +5,8 @@ use Rattle.day.proofs.outcome_verdict.Goals as goal
 
 pub returns-in-Accepted : goal.returns-in-Accepted
 returns-in-Accepted c =
-    c.acceptance.ensures ∙ ap outcome_verdict (sym c.outcome-1.given.1)
+    c.acceptance.ensures ∙ ap outcome_verdict (sym c.in-Accepted.is)
 
 pub returns-in-Refused : goal.returns-in-Refused
 returns-in-Refused c =
-    c.refusal_verdict.ensures ∙ ap outcome_verdict (sym c.outcome-in-Refused-1.given.1)
+    c.refusal_verdict.ensures ∙ ap outcome_verdict (sym c.in-Refused.is)

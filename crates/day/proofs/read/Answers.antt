@@ -10,7 +10,7 @@ returns-then-file-gt-MOST_BYTES c =
 
 pub returns-then-letters-n : goal.returns-then-letters-n
 returns-then-letters-n c =
-    let both = short c.args.file.now _ _ c.check_lines.ensures c.n-1.given.1
+    let both = short c.args.file.now _ _ c.check_lines.ensures c.in-Good.is
     _ _ c.if-file-gt-MOST_BYTES.false (⊎_elim (λ h. inl h.taken) (λ h. inr (ltb-true _ _ h.1.taken)) c.then-letters-n.branch) in record { value = both.0; meaning = both.1 }
 
 pub fill-requires : goal.fill-requires
@@ -18,23 +18,23 @@ fill-requires c =
     (
       c.if-letters-n.false,
       ltb-false _ _ c.if-seconds-n.false-raw,
-      all_formed c.args.file.now _ _ c.check_lines.ensures c.n-1.given.1,
+      all_formed c.args.file.now _ _ c.check_lines.ensures c.in-Good.is,
     )
 
 pub returns-in-Bad : goal.returns-in-Bad
 returns-in-Bad c =
     let both = bad_line c.args.file.now _ _ _ _ c.if-file-gt-MOST_BYTES.false c.check_lines.ensures
-    c.refusal-1.given.1 in record { value = both.0; meaning = both.1 }
+    c.in-Bad.is in record { value = both.0; meaning = both.1 }
 
 pub shape_of-letters : goal.shape_of-letters
 shape_of-letters c =
-    c.fill.auto.1.1.0
+    c.fill.auto.letters
 
 pub shape_of-seconds : goal.shape_of-seconds
 shape_of-seconds c =
-    c.fill.auto.1.1.1.0
+    c.fill.auto.seconds
 
 pub returns-else-seconds-n : goal.returns-else-seconds-n
 returns-else-seconds-n c =
-    let both = filled c.args.file.now _ _ c.check_lines.ensures c.n-1.given.1
+    let both = filled c.args.file.now _ _ c.check_lines.ensures c.in-Good.is
     _ _ _ _ c.if-file-gt-MOST_BYTES.false c.if-letters-n.false (ltb-false _ _ c.if-seconds-n.false-raw) c.fill.ensures.letters_after c.fill.ensures.seconds_after in record { value = both.0; meaning = both.1 }

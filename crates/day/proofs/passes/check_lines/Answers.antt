@@ -18,29 +18,29 @@ returns-then-n-eq-MOST_LINES c =
 pub returns-in-Malformed : goal.returns-in-Malformed
 returns-in-Malformed c =
     coming_malformed c.loop-at.invariant c.loop-at-test.true c.read_line.ensures c.if-n-eq-MOST_LINES.false
-    c.enum_told-1.given.1
+    c.in-Malformed.is
 
 pub returns-then-second-gt-LAST_SECOND : goal.returns-then-second-gt-LAST_SECOND
 returns-then-second-gt-LAST_SECOND c =
     coming_wrong c.loop-at.invariant c.loop-at-test.true c.read_line.ensures c.if-n-eq-MOST_LINES.false
-    c.second-1.given.1 (⊎_elim (λ h. inl h.taken) (λ h. inr (ltb-true _ _ h.1.taken)) c.then-second-gt-LAST_SECOND.branch)
+    c.in-Formed.is (⊎_elim (λ h. inl h.taken) (λ h. inr (ltb-true _ _ h.1.taken)) c.then-second-gt-LAST_SECOND.branch)
 
 pub overflow_add-at : goal.overflow_add-at
 overflow_add-at c =
     let w = line_fits c.loop-at.invariant c.loop-at-test.true c.read_line.ensures c.if-n-eq-MOST_LINES.false
-    c.second-1.given.1 in
+    c.in-Formed.is in
     omega arith
 
 pub loop-at-smaller : goal.loop-at-smaller
 loop-at-smaller c =
     let w = line_fits c.loop-at.invariant c.loop-at-test.true c.read_line.ensures c.if-n-eq-MOST_LINES.false
-    c.second-1.given.1 in
+    c.in-Formed.is in
     omega arith
 
 pub loop-at-preserved : goal.loop-at-preserved
 loop-at-preserved c =
     coming_on c.loop-at.invariant c.loop-at-test.true c.read_line.ensures c.if-n-eq-MOST_LINES.false
-    c.second-1.given.1 c.if-second-gt-LAST_SECOND.false (ltb-false _ _ c.if-second-last.false-raw)
+    c.in-Formed.is c.if-second-gt-LAST_SECOND.false (ltb-false _ _ c.if-second-last.false-raw)
 
 pub returns : goal.returns
 returns c =

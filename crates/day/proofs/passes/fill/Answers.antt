@@ -18,7 +18,7 @@ shape_of-seconds-in-Malformed c =
 
 pub returns-in-Malformed : goal.returns-in-Malformed
 returns-in-Malformed c =
-    let both = absurd (storing_never c.loop-i.invariant c.loop-i-test.true c.read_line.ensures c.enum_told-1.given.1) in record { letters_after = both.0; seconds_after = both.1 }
+    let both = absurd (storing_never c.loop-i.invariant c.loop-i-test.true c.read_line.ensures c.in-Malformed.is) in record { letters_after = both.0; seconds_after = both.1 }
 
 pub bounds-letters-i : goal.bounds-letters-i
 bounds-letters-i c =
@@ -34,7 +34,7 @@ bounds-seconds-i c =
 
 pub overflow_add-at : goal.overflow_add-at
 overflow_add-at c =
-    let w = storing_fits c.loop-i.invariant c.loop-i-test.true c.read_line.ensures c.second-1.given.1 in
+    let w = storing_fits c.loop-i.invariant c.loop-i-test.true c.read_line.ensures c.in-Formed.is in
     omega arith
 
 pub loop-i-smaller : goal.loop-i-smaller
@@ -43,7 +43,7 @@ loop-i-smaller c =
 
 pub loop-i-preserved : goal.loop-i-preserved
 loop-i-preserved c =
-    storing_on c.loop-i.invariant c.loop-i-test.true c.read_line.ensures c.second-1.given.1
+    storing_on c.loop-i.invariant c.loop-i-test.true c.read_line.ensures c.in-Formed.is
 
 pub shape_of-letters : goal.shape_of-letters
 shape_of-letters c =
