@@ -232,7 +232,9 @@ class Function:
                 out.append(self.shown(env, head, flat))
             else:
                 out.append(m.group(0))
-        return "".join(out)
+        text = "".join(out)
+        text = re.sub(r"\((?:ltb|leb|eqb)-(true|false) _ _ (c\.[\w.+-]+\.)\1-raw\)", r"\2\1", text)
+        return re.sub(r"(?:ltb|leb|eqb)-(true|false) _ _ (c\.[\w.+-]+\.)\1-raw\b", r"\2\1", text)
 
 
 def lets(body):
@@ -264,7 +266,7 @@ def lets(body):
 
 def as_record(body, names):
     head, last = lets(body)
-    if last.startswith("record"):
+    if last.startswith(("record", "absurd")):
         return body
     if last.startswith("(") and comma(last) and split_terms(last) == [last]:
         ps = parts(last)
@@ -273,7 +275,7 @@ def as_record(body, names):
     if re.fullmatch(r"(search rules|omega arith|grind arith)", last):
         return head + " record { " + "; ".join(f"{a} = {last}" for a in names) + " }"
     paths = [("1." * k + ("0" if k < len(names) - 1 else "")).rstrip(".") for k in range(len(names))]
-    return head + f"let both = {last} in record {{ " + "; ".join(f"{a} = both.{p}" for a, p in zip(names, paths)) + " }"
+    return head + f"let both = {last} in\n    record {{ " + "; ".join(f"{a} = both.{p}" for a, p in zip(names, paths)) + " }"
 
 
 def turn(text, record, crate, path):
@@ -331,6 +333,8 @@ def turn(text, record, crate, path):
             body = re.sub(rf"(?<![\w.'-]){re.escape(vs[0])}(?=\.)", "c", body)
         place = record["asked_at"][k][0]
         body = f.body(body, place, place)
+        if new.startswith("shape_of-") and re.fullmatch(r"c\.[\w+-]+\.auto\.\w+", strip(body)):
+            continue
         names = record["asked"].get(old) or record["asked"].get(new)
         if names and len(names) > 1 and not (opened and plain == "search rules"):
             body = as_record(body, names)

@@ -23,7 +23,7 @@ returns-in-Malformed c =
 pub returns-then-second-gt-LAST_SECOND : goal.returns-then-second-gt-LAST_SECOND
 returns-then-second-gt-LAST_SECOND c =
     coming_wrong c.loop-at.invariant c.loop-at-test.true c.read_line.ensures c.if-n-eq-MOST_LINES.false
-    c.in-Formed.is (⊎_elim (λ h. inl h.taken) (λ h. inr (ltb-true _ _ h.1.taken)) c.then-second-gt-LAST_SECOND.branch)
+    c.in-Formed.is (⊎_elim (λ h. inl h) (λ h. inr h.1) c.then-second-gt-LAST_SECOND.either)
 
 pub overflow_add-at : goal.overflow_add-at
 overflow_add-at c =

@@ -18,7 +18,7 @@ shape_of-seconds-in-Malformed c =
 
 pub returns-in-Malformed : goal.returns-in-Malformed
 returns-in-Malformed c =
-    let both = absurd (storing_never c.loop-i.invariant c.loop-i-test.true c.read_line.ensures c.in-Malformed.is) in record { letters_after = both.0; seconds_after = both.1 }
+    absurd (storing_never c.loop-i.invariant c.loop-i-test.true c.read_line.ensures c.in-Malformed.is)
 
 pub bounds-letters-i : goal.bounds-letters-i
 bounds-letters-i c =
