@@ -146,6 +146,9 @@ class Function:
             for field, step, path in sorted(arms[2] if arms else [], key=lambda it: -len(it[2])):
                 if step == old and path and rest[: len(path)] == path:
                     return [arms[0], field] + rest[len(path) :]
+            for field, step, path in arms[2] if arms else []:
+                if step == old and len(rest) < len(path) and path[: len(rest)] == rest and rest != ["ensures"]:
+                    raise Fails("a part of an arm")
             place = self.place[place][1]
         return None
 
@@ -275,7 +278,7 @@ def as_record(body, names):
     if re.fullmatch(r"(search rules|omega arith|grind arith)", last):
         return head + " record { " + "; ".join(f"{a} = {last}" for a in names) + " }"
     paths = [("1." * k + ("0" if k < len(names) - 1 else "")).rstrip(".") for k in range(len(names))]
-    return head + f"let both = {last} in\n    record {{ " + "; ".join(f"{a} = both.{p}" for a, p in zip(names, paths)) + " }"
+    return head.rstrip() + f"\n    let both = {last} in\n    record {{ " + "; ".join(f"{a} = both.{p}" for a, p in zip(names, paths)) + " }"
 
 
 def turn(text, record, crate, path):

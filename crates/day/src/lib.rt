@@ -16,7 +16,7 @@ use verdict::Verdict;
 const MOST_BYTES: usize = 2550;
 
 // Why a file is refused, with the line that is bad (`ManyLines` is always line 256).
-#[derive(Drop)]
+#[derive(Clone, Copy)]
 pub enum Refusal {
     LongFile,
     Malformed(usize),
@@ -26,7 +26,7 @@ pub enum Refusal {
 }
 
 // What a file is: accepted with its n events, or refused.
-#[derive(Drop)]
+#[derive(Clone, Copy)]
 pub enum Outcome {
     Accepted(usize),
     Refused(Refusal),

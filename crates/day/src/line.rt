@@ -14,7 +14,7 @@ const TAB: u8 = b'\t';
 const NEWLINE: u8 = b'\n';
 
 // What stands at the front of an unread text: a line of the form, with its second, its letter and its length, or none.
-#[derive(Drop)]
+#[derive(Clone, Copy)]
 pub enum LineRead {
     Formed(u32, u8, usize),
     Malformed,

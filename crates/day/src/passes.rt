@@ -13,7 +13,7 @@ const LAST_SECOND: u32 = 89999;
 const MOST_LINES: usize = 255;
 
 // What the first pass finds: the number of good lines, or the first refusal.
-#[derive(Drop)]
+#[derive(Clone, Copy)]
 pub enum Checked {
     Good(usize),
     Bad(Refusal),

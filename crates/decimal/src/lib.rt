@@ -34,14 +34,14 @@ const POWERS: [u64; MOST_DIGITS] = [
 ];
 
 // A number's digits: the first `len` of the bytes; the others are 0.
-#[derive(Drop)]
+#[derive(Clone, Copy)]
 pub struct Digits {
     pub bytes: [u8; MOST_DIGITS],
     pub len: usize,
 }
 
 // One digit of a number, and what is left of the number behind it.
-#[derive(Drop)]
+#[derive(Clone, Copy)]
 struct Step {
     digit: u8,
     rest: u64,

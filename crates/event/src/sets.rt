@@ -8,7 +8,7 @@ use crate::is_event;
 // The bits of all 52 letters.
 pub const EVERY: u64 = 4503599627370495;
 
-#[derive(Drop)]
+#[derive(Clone, Copy)]
 pub struct LetterSet {
     pub bits: u64,
 }

@@ -8,7 +8,7 @@ ghost use Rattle.expression.specs.KindNumber.{kind_number};
 use event::sets::LetterSet;
 
 // What a node is: `0` is empty (no word), `1` is epsilon (the empty word), and a letter's kind carries a set of letters, any of which it fits.
-#[derive(Drop)]
+#[derive(Clone, Copy)]
 pub enum Kind {
     Empty,
     Epsilon,
@@ -21,7 +21,7 @@ pub enum Kind {
 }
 
 // A node record: the node's byte offset in the rule text, and its kind.
-#[derive(Drop)]
+#[derive(Clone, Copy)]
 pub struct Node {
     pub offset: usize,
     pub kind: Kind,
@@ -49,14 +49,14 @@ pub fn kind_number(kind: Kind) -> u64
 }
 
 // The leaf at the front of a text: how many bytes it has, and its kind.
-#[derive(Drop)]
+#[derive(Clone, Copy)]
 pub struct Leaf {
     pub width: usize,
     pub kind: Kind,
 }
 
 // Where a scan stands: an operand is expected, or has just ended; a bracket has just been opened, or has letters and may be closed.
-#[derive(Drop)]
+#[derive(Clone, Copy)]
 pub enum Stage {
     Operand,
     Ended,
@@ -65,7 +65,7 @@ pub enum Stage {
 }
 
 // How far a scan has come: the open parentheses, where it stands, and the nodes and special nodes so far.
-#[derive(Drop)]
+#[derive(Clone, Copy)]
 pub struct ScanState {
     pub depth: usize,
     pub stage: Stage,
@@ -74,14 +74,14 @@ pub struct ScanState {
 }
 
 // One byte's step of the scan: no sentence begins so, or the next state.
-#[derive(Drop)]
+#[derive(Clone, Copy)]
 pub enum ScanStep {
     Stuck,
     Next(ScanState),
 }
 
 // What a scan finds: a sentence with its numbers of nodes and of special nodes, or the place where it breaks off.
-#[derive(Drop)]
+#[derive(Clone, Copy)]
 pub enum ScanResult {
     Complete(usize, usize),
     Broken(usize),

@@ -20,7 +20,7 @@ use verdict::Verdict;
 const TABLE_NUMBERS: usize = 8192;
 
 // What a job comes to, in document 01's numbers; n is the length of the text.
-#[derive(Drop)]
+#[derive(Clone, Copy)]
 pub struct Answer {
     pub number: u64,
     pub place: u64,

@@ -14,7 +14,7 @@ use rule_line::{LineNodes, Refusal as FileRefusal};
 use verdict::Verdict;
 
 // Accepted, with found and count; or refused: by the file's reader, with the line, or for the word, the table or the limit.
-#[derive(Drop)]
+#[derive(Clone, Copy)]
 pub enum FileOutcome {
     Accepted(u64, u64),
     FileRefused(FileRefusal, usize),

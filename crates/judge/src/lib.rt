@@ -13,7 +13,7 @@ use rule::{Outcome as RuleOutcome, Refusal as RuleRefusal};
 use verdict::Verdict;
 
 // Accepted, with found and count; or refused: by the rule reader, or for the word, the table or the limit.
-#[derive(Drop)]
+#[derive(Clone, Copy)]
 pub enum Outcome {
     Accepted(u64, u64),
     RuleRefused(RuleRefusal),

@@ -12,7 +12,7 @@ use crate::fields::{field_length, put_byte, put_field, put_line};
 use crate::spans::{spans_length, write_spans};
 
 // The fields of the `H` line.
-#[derive(Drop)]
+#[derive(Clone, Copy)]
 pub struct Heading {
     pub n: u64,
     pub m: u64,
@@ -22,7 +22,7 @@ pub struct Heading {
 }
 
 // A line: the first `len` of the bytes; the others are 0.
-#[derive(Drop)]
+#[derive(Clone, Copy)]
 pub struct Line {
     pub bytes: [u8; 44],
     pub len: usize,

@@ -11,7 +11,7 @@ ghost use Rattle.marks.specs.Marks.{StartsAt, PlaceOf, StoredAt, MarkedAt, Finis
 
 // What an owner's walks fill: they begin before the exits left and right and end at them; the first number of the block; whether it has
 // the spans at which they end or those at which they do not.
-#[derive(Drop)]
+#[derive(Clone, Copy)]
 pub struct Target {
     pub first: usize,
     pub left: usize,
@@ -20,7 +20,7 @@ pub struct Target {
 }
 
 // What has been counted, or the limit where it is spent: where the next places would be more than it allows.
-#[derive(Drop)]
+#[derive(Clone, Copy)]
 pub struct Tally {
     pub count: u64,
     pub spent: bool,

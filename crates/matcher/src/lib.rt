@@ -17,7 +17,7 @@ use verdict::Verdict;
 const MOST_EVENTS: usize = 255;
 
 // Why a word, a table or a limit is refused: with the place of a foreign event, and with the limit that is spent.
-#[derive(Drop)]
+#[derive(Clone, Copy)]
 pub enum Refusal {
     LongWord,
     ForeignEvent(usize),
@@ -26,14 +26,14 @@ pub enum Refusal {
 }
 
 // Accepted, with found and count, or refused.
-#[derive(Drop)]
+#[derive(Clone, Copy)]
 pub enum Outcome {
     Accepted(u64, u64),
     Refused(Refusal),
 }
 
 // Word and table fit the rule, or what refuses them.
-#[derive(Drop)]
+#[derive(Clone, Copy)]
 pub enum Fit {
     Fits,
     Unfit(Refusal),

@@ -1,5 +1,7 @@
 // Merging: the day files of a door's two readers become one day, in two lent buffers, letters and seconds.
 // What is the first file's has a 1 behind its name (letters1, seconds1), what is the second file's a 2.
+#![tactic(auto)]
+
 mod events;
 
 ghost use Rattle.std.specs.Prelude.{◌≡◌};
@@ -16,7 +18,7 @@ use verdict::Verdict;
 const MOST_EVENTS: usize = 255;
 
 // Accepted, with the number of events; refused as the day reader refuses a file, or for its buffers; or refused for too many events together.
-#[derive(Drop)]
+#[derive(Clone, Copy)]
 pub enum Outcome {
     Accepted(usize),
     Refused(DayRefusal),

@@ -1,4 +1,6 @@
 // The free moves of a rule's states, closed, and the entries of its letters and of its special nodes, as bits.
+#![tactic(auto)]
+
 mod closure;
 mod entries;
 mod free;

@@ -22,7 +22,7 @@ fn sides_of(kind: Kind) -> usize
 }
 
 // Where a part's records begin, and its left or only side, 0 where it has none.
-#[derive(Drop)]
+#[derive(Clone, Copy)]
 pub struct Extent {
     pub begin: usize,
     pub left: usize,

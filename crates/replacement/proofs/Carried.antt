@@ -41,7 +41,7 @@ module _ (f : ℕ → ℕ) (g : ℕ → Tree) where
       record { left = []; right = w; whole = refl; first = done; second = at z e p; reach = ap f (sym z) ∙ omega arith }
   cut {j} done (b ∷ u) x e = absurd (let n : ◌≡◌ {A = ℕ} 0 1 = cc in omega arith)
   cut {j} (same {b = c} h i p) (b ∷ u) x e =
-      let d = cut p u x (cc) in
+      let d = cut {j = j + 1} p u x (cc) in
       let z : j + 1 + length u ≡ j + suc (length u) = omega arith in
       let y : c ≡ b = cc in
       record {
@@ -53,7 +53,7 @@ module _ (f : ℕ → ℕ) (g : ℕ → Tree) where
         reach = ap f (sym z) ∙ omega (arith, d.reach);
       }
   cut {j} (other {v = v} r h p) (b ∷ u) x e =
-      let d = cut p u x (cc) in
+      let d = cut {j = j + 1} p u x (cc) in
       let z : j + 1 + length u ≡ j + suc (length u) = omega arith in
       let y : ◌≡◌ {A = ℕ} 49 b = cc in
       record {

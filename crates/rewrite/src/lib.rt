@@ -12,7 +12,7 @@ use rule::{Outcome as RuleOutcome, Refusal as RuleRefusal};
 use verdict::Verdict;
 
 // Accepted, with the length of the new text; or refused: as no rule of the store, or for the buffer.
-#[derive(Drop)]
+#[derive(Clone, Copy)]
 pub enum Outcome {
     Accepted(usize),
     RuleRefused(RuleRefusal),

@@ -11,7 +11,7 @@ use crate::records::nodes_of;
 use expression::{Kind, Node, kind_number};
 
 // How far the reader has come: the records written, and the offset at which the unread text begins.
-#[derive(Drop)]
+#[derive(Clone, Copy)]
 pub struct Reading {
     pub written: usize,
     pub offset: usize,

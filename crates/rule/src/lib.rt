@@ -1,4 +1,6 @@
 // Rule texts: the reader that finds what a text is and writes the records of its nodes.
+#![tactic(auto)]
+
 pub mod bytes;
 mod leaf;
 pub mod levels;
@@ -24,7 +26,7 @@ const MOST_NODES: usize = 64;
 const MOST_SPECIALS: usize = 7;
 
 // Why a text is refused, with the place where the refusal names one.
-#[derive(Drop)]
+#[derive(Clone, Copy)]
 pub enum Refusal {
     EmptyText,
     LongText,
@@ -37,14 +39,14 @@ pub enum Refusal {
 }
 
 // What a text is: accepted with m and k, or refused.
-#[derive(Drop)]
+#[derive(Clone, Copy)]
 pub enum Outcome {
     Accepted(usize, usize),
     Refused(Refusal),
 }
 
 // The reader's answer: on acceptance the first m records are the nodes', all others are `0` at offset 0.
-#[derive(Drop)]
+#[derive(Clone, Copy)]
 pub struct Answer {
     pub outcome: Outcome,
     pub nodes: [Node; 64],

@@ -13,14 +13,14 @@ use rule_line::{LineNodes, Refusal};
 use verdict::Verdict;
 
 // What a file is: accepted with its number of lines, or refused, with the line.
-#[derive(Drop)]
+#[derive(Clone, Copy)]
 pub enum Outcome {
     Accepted(usize),
     Refused(Refusal, usize),
 }
 
 // The reader's answer: on acceptance the first lines are the file's, all others have no node.
-#[derive(Drop)]
+#[derive(Clone, Copy)]
 pub struct Answer {
     pub outcome: Outcome,
     pub lines: [LineNodes; 16],

@@ -16,7 +16,7 @@ const MOST_LINES: usize = 16;
 
 // What is kept of a line that has passed, beside its records: where its name stands in the file, and how many letters it has; the length
 // of the replaced text, m and k; and where the next line begins.
-#[derive(Drop)]
+#[derive(Clone, Copy)]
 pub struct LineFacts {
     pub name: usize,
     pub letters: usize,
@@ -27,14 +27,14 @@ pub struct LineFacts {
 }
 
 // A line has passed, or is refused.
-#[derive(Drop)]
+#[derive(Clone, Copy)]
 pub enum TurnOutcome {
     Passed(LineFacts),
     Refused(Refusal),
 }
 
 // The same with the records of a line that has passed.
-#[derive(Drop)]
+#[derive(Clone, Copy)]
 pub struct Turn {
     pub outcome: TurnOutcome,
     pub nodes: [Node; 64],

@@ -29,7 +29,7 @@ fn put_line(nodes: [Node; 64], written: usize, source: [Node; 64], m: usize, d: 
 }
 
 // Records that are being written, and how many.
-#[derive(Drop)]
+#[derive(Clone, Copy)]
 pub struct Grafting {
     pub nodes: [Node; 64],
     pub written: usize,

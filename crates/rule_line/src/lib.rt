@@ -9,7 +9,7 @@ pub mod text;
 use expression::Node;
 
 // Why a line of a rule file is refused.
-#[derive(Drop)]
+#[derive(Clone, Copy)]
 pub enum Refusal {
     ManyLines,
     OtherForm,
@@ -26,7 +26,7 @@ pub enum Refusal {
 }
 
 // A line of the answer: m and k of its replaced text, and its records, of which the first m are the nodes'.
-#[derive(Drop)]
+#[derive(Clone, Copy)]
 pub struct LineNodes {
     pub m: usize,
     pub k: usize,

@@ -11,7 +11,7 @@ const RULE_TAG: u8 = b'R';
 const TAB: u8 = b'\t';
 
 // What stands at the front of an unread file: a line of the form, with the lengths of its name and its rule, or none.
-#[derive(Drop)]
+#[derive(Clone, Copy)]
 pub enum LineRead {
     Formed(usize, usize),
     Malformed,

@@ -13,7 +13,7 @@ const OPERAND: u8 = b'1';
 
 // The piece at the front of an unread rule: its byte in the shape, its origin (0 for a byte of the rule's own, else 1 and the name's line),
 // and its length as it is written.
-#[derive(Drop)]
+#[derive(Clone, Copy)]
 pub struct PieceRead {
     pub byte: u8,
     pub origin: u64,

@@ -3,7 +3,7 @@ ghost use Rattle.std.specs.Prelude.{◌≡◌, ◌≤◌, length};
 ghost use Rattle.rule_line.specs.Summing.{Facts, SmallSums, summed_one, known_in, AllKnown, Summed};
 
 // The length of the replaced text so far, and what the names so far add to the shape's nodes and special nodes.
-#[derive(Drop)]
+#[derive(Clone, Copy)]
 pub struct Sums {
     pub length: usize,
     pub nodes: usize,

@@ -22,14 +22,14 @@ const MOST_NODES: usize = 64;
 const MOST_SPECIALS: usize = 7;
 
 // What a line's rule is: passed, with m, k and the length of its replaced text, or refused.
-#[derive(Drop)]
+#[derive(Clone, Copy)]
 pub enum RuleOutcome {
     Passed(usize, usize, usize),
     Refused(Refusal),
 }
 
 // The same with the records of a rule that has passed.
-#[derive(Drop)]
+#[derive(Clone, Copy)]
 pub struct RuleRead {
     pub outcome: RuleOutcome,
     pub nodes: [Node; 64],

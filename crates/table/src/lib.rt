@@ -6,7 +6,7 @@ ghost use Rattle.work.specs.Table.{block_length};
 ghost use Rattle.table.specs.Layout.{Lies, row_bit, RowSpan, Cleared};
 
 // A block of the table: its first number, and the length of the word.
-#[derive(Drop)]
+#[derive(Clone, Copy)]
 pub struct Block {
     pub first: usize,
     pub n: usize,

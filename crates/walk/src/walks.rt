@@ -11,7 +11,7 @@ use marks::is_finished;
 use marks::steps::advance;
 
 // What has been counted, or the limit where it is spent; and, where it is not, a number from which on nothing is marked.
-#[derive(Drop)]
+#[derive(Clone, Copy)]
 pub struct WalkEnd {
     pub count: u64,
     pub spent: bool,

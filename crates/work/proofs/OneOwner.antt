@@ -110,8 +110,8 @@ node_owner {u = u} (union o a b) x p z l h =
     (λ k. ⊎_elim (λ g. node_owner b (x + size a) (of_union_right p) z g.1 (omega (arith, g.0))) (λ e. (u, union o a b, x, p, e)) k)
     (two_sides (x + size a) (x + below (union o a b)) z (omega arith))
 node_owner {u = u} (intersection o a b) x p z l h =
-    ⊎_elim (λ k. node_owner a x (of_intersection_left p) z l k)
-    (λ k. ⊎_elim (λ g. node_owner b (x + size a) (of_intersection_right p) z g.1 (omega (arith, g.0)))
+    ⊎_elim (λ k. node_owner {u = special (x + below (intersection o a b))} a x (of_intersection_left p) z l k)
+    (λ k. ⊎_elim (λ g. node_owner {u = special (x + below (intersection o a b))} b (x + size a) (of_intersection_right p) z g.1 (omega (arith, g.0)))
     (λ e. (u, intersection o a b, x, p, e)) k)
     (two_sides (x + size a) (x + below (intersection o a b)) z (omega arith))
 node_owner {u = u} (concatenation o a b) x p z l h =
@@ -120,7 +120,7 @@ node_owner {u = u} (concatenation o a b) x p z l h =
     (λ e. (u, concatenation o a b, x, p, e)) k)
     (two_sides (x + size a) (x + below (concatenation o a b)) z (omega arith))
 node_owner {u = u} (complement o a) x p z l h =
-    ⊎_elim (λ k. node_owner a x (of_complement p) z l k)
+    ⊎_elim (λ k. node_owner {u = special (x + below (complement o a))} a x (of_complement p) z l k)
     (λ k. ⊎_elim (λ g. absurd (omega (arith, g.0, g.1))) (λ e. (u, complement o a, x, p, e)) k)
     (two_sides (x + size a) (x + below (complement o a)) z (omega arith))
 node_owner {u = u} (star o a) x p z l h =

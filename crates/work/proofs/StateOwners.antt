@@ -4,7 +4,7 @@ use mathlib.Core.Logic.{inl, inr, ⊎_elim}
 use Prim.Native.Nat.{ℕ, ◌+◌, ◌≤◌}
 use lib.ListN.{length}
 use Rattle.event.specs.Event.{Word}
-use Rattle.expression.specs.Tree.{Tree, empty, epsilon, letter, union, intersection, concatenation, complement, star, size}
+use Rattle.expression.specs.Tree.{Tree, empty, epsilon, letter, union, intersection, concatenation, complement, star, below, size}
 use Rattle.work.specs.Walk.{Owner, whole, special}
 use Rattle.work.specs.Owned.{Owns, of_rule, of_union_left, of_union_right, of_concatenation_left}
 use Rattle.work.specs.Walk.{Reaches}
@@ -57,12 +57,12 @@ module _ (w : Word) (t : Tree) where
     owned_state (intersection c a b) x y s j o (inl h) =
         called h.0 (⊎_elim (λ g. reached_state a x s j (of_intersection_left o) g)
         (λ g. reached_state b (x + size a) s j (of_intersection_right o) g) h.1)
-    owned_state (intersection c a b) x y s j o (inr (inl h)) = owned_state a x y s j (of_intersection_left o) h
-    owned_state (intersection c a b) x y s j o (inr (inr h)) = owned_state b (x + size a) y s j (of_intersection_right o) h
+    owned_state {u = u} (intersection c a b) x y s j o (inr (inl h)) = owned_state {u = special (x + below (intersection c a b))} a x y s j (of_intersection_left o) h
+    owned_state {u = u} (intersection c a b) x y s j o (inr (inr h)) = owned_state {u = special (x + below (intersection c a b))} b (x + size a) y s j (of_intersection_right o) h
     owned_state (concatenation c a b) x y s j o (inl h) = owned_state a x y s j (of_concatenation_left o) h
     owned_state (concatenation c a b) x y s j o (inr h) = owned_state b (x + size a) y s j (of_concatenation_right o) h
     owned_state (complement c a) x y s j o (inl h) = called h.0 (reached_state a x s j (of_complement o) h.1)
-    owned_state (complement c a) x y s j o (inr h) = owned_state a x y s j (of_complement o) h
+    owned_state {u = u} (complement c a) x y s j o (inr h) = owned_state {u = special (x + below (complement c a))} a x y s j (of_complement o) h
     owned_state (star c a) x y s j o h = owned_state a x y s j (of_star o) h
 
     walk_state : (u : Owner) (s j : ℕ) → WalkOf w t u i s j → StateOf t u s
