@@ -23,6 +23,9 @@ def norm(s):
 
 
 def same(f, old):
+    m = re.fullmatch(r"is_Is([A-Z]\w*)", f)
+    if m:
+        f = "is" + re.sub(r"[A-Z]", lambda it: "_" + it.group(0).lower(), m.group(1))
     return norm(f) == norm(old) or f.endswith("_lem") and norm(f[:-4]) == norm(old)
 
 
@@ -155,11 +158,22 @@ class Function:
     def resolve(self, place, fields, goal_place):
         i = 0
         while i < len(fields) and fields[i] == "before":
-            place, i = self.parent(place), i + 1
+            place, i = self.place[place][1] or "Start", i + 1
         fields = fields[i:]
         if not fields:
             return place, None
         f, rest = fields[0], fields[1:]
+        # the older form has some places more: the step of that name on the way to the goal
+        if f in ("args", "requires", "ranges"):
+            place = "Start"
+        else:
+            way, it = [place], self.place[place][1]
+            while it is not None:
+                way, it = way + [it], self.place[it][1]
+            it = goal_place
+            while it is not None:
+                way, it = way + [it], self.place[it][1]
+            place = next((w for w in way if same(f, self.place[w][2][0])), place)
         old, new = self.place[place][2]
         if old and same(f, old):
             arm = self.arm(goal_place, old, rest)
@@ -181,12 +195,18 @@ class Function:
                     while k < len(rest) and rest[k] == "1" and k < len(names):
                         k += 1
                     rest = [rest[0], names[k - 1]] + rest[k + 1 if k < len(rest) and rest[k] == "0" else k :]
+            if new.startswith("in_default") and rest and rest[0] == "rest":
+                rest = [new + "-own"] + rest
             return None, [new] + rest
         if place == "Start" or self.place[place][1] is None:
             if f in ("args", "requires", "ranges"):
                 if f == "requires" and self.r["pre"]:
                     names = self.r["pre"]["fields"] if isinstance(self.r["pre"], dict) else self.r["pre"]
                     rest = self.numbered(names, rest)
+                for a, b in self.r["args"]:
+                    a, b = (it.replace(" ", "").split(".")[1:] for it in (a, b))
+                    if [f] + rest[: len(a) - 1] == a:
+                        return None, b + rest[len(a) - 1 :]
                 return None, [f] + rest
         raise Fails(f"{place} has no {f} (but {old})")
 

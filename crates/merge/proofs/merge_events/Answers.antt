@@ -13,7 +13,7 @@ returns-then-n-gt-MOST_EVENTS c =
 pub returns-then-letters-n : goal.returns-then-letters-n
 returns-then-letters-n c =
     let p = c.requires in
-    answers_short p.0 p.1 (omega (arith, c.if-n-gt-MOST_EVENTS.false)) _ _ (⊎_elim (λ h. inl h.taken) (λ h. inr (ltb-true _ _ h.1.taken)) c.then-letters-n.branch)
+    answers_short p.0 p.1 (omega (arith, c.if-n-gt-MOST_EVENTS.false)) _ _ (⊎_elim (λ h. inl h) (λ h. inr h.1) c.then-letters-n.either)
 
 pub fill-requires : goal.fill-requires
 fill-requires c =

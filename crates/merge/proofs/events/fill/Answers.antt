@@ -83,5 +83,6 @@ shape_of-seconds c =
 
 pub returns : goal.returns
 returns c =
-    let p = c.requires inlet both = storing_ends p.aligned.0 p.aligned.1 c.loop-i.invariant (omega (arith, c.loop-i-test.false, c.loop-i.invariant.within)) in
+    let p = c.requires in
+    let both = storing_ends p.aligned.0 p.aligned.1 c.loop-i.invariant (omega (arith, c.loop-i-test.false, c.loop-i.invariant.within)) in
     record { letters_after = both.0; seconds_after = both.1 }

@@ -1,0 +1,46 @@
+-- `kind_of` is `kind_of`. Assumes nothing.
+use mathlib.Core.Path.{sym, ap}
+use borrow.Author.Tests.{ne_eqb}
+use Rattle.rule.specs.Reader.{kind_of}
+use Rattle.rule.proofs.records.kind_of.Goals as goal
+
+pub returns-in-0 : goal.returns-in-0
+returns-in-0 c =
+    sym (ap kind_of c.in-0.is)
+
+pub returns-in-1 : goal.returns-in-1
+returns-in-1 c =
+    sym (ap kind_of c.in-1.is)
+
+pub returns-in-2 : goal.returns-in-2
+returns-in-2 c =
+    sym (ap kind_of c.in-2.is)
+
+pub returns-in-3 : goal.returns-in-3
+returns-in-3 c =
+    sym (ap kind_of c.in-3.is)
+
+pub returns-in-4 : goal.returns-in-4
+returns-in-4 c =
+    sym (ap kind_of c.in-4.is)
+
+pub returns-in-5 : goal.returns-in-5
+returns-in-5 c =
+    sym (ap kind_of c.in-5.is)
+
+pub returns-in-6 : goal.returns-in-6
+returns-in-6 c =
+    sym (ap kind_of c.in-6.is)
+
+pub returns-in_default : goal.returns-in_default
+returns-in_default c =
+    let n = c.in_default.in_default-own.rest in
+    simp (
+      ne_eqb _ _ n.0.0.0.0.0.0.1,
+      ne_eqb _ _ n.0.0.0.0.0.1,
+      ne_eqb _ _ n.0.0.0.0.1,
+      ne_eqb _ _ n.0.0.0.1,
+      ne_eqb _ _ n.0.0.1,
+      ne_eqb _ _ n.0.1,
+      ne_eqb _ _ n.1,
+    )
