@@ -1,5 +1,7 @@
 // One number of used events of a walk: sets of states, what free moves lead to, the exits to come of special nodes, and events. A set of
 // states is two u64, state s as bit s; an automaton is one run of 834 numbers, whose parts begin at the constants below.
+#![tactic(auto)]
+
 mod events;
 mod exits;
 mod free;

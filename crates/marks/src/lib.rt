@@ -1,5 +1,7 @@
 // The marks of one walk, the row of its start that they show, and the start whose walk goes no further than its initial states. The places at
 // number j, where j events are used, are elements 2 * j and 2 * j + 1 of the marks, one bit a state.
+#![tactic(auto)]
+
 pub mod ends;
 pub mod rows;
 pub mod steps;

@@ -1,4 +1,6 @@
 // Where the bits of spans stand in the span table: the rows of a block, read and written as four numbers, bit k for the span to number k.
+#![tactic(auto)]
+
 ghost use Rattle.std.specs.Prelude.{◌≡◌, true, ℕ, ◌<◌, ◌≤◌, length};
 ghost use Rattle.bits.specs.Bit.{bit_at};
 ghost use Rattle.bits.specs.Runs.{Adds};

@@ -1,0 +1,17 @@
+-- `closure` follows the closed moves. Assumes nothing.
+use mathlib.Core.Path.{sym}
+use lib.Seq.{length-take-le}
+use native.Mathlib.Omega.{arith}
+use Rattle.levels.proofs.closure.Goals as goal
+
+pub slice_bounds-follow-end : goal.slice_bounds-follow-end
+slice_bounds-follow-end c =
+    sym (length-take-le 256 c.args.automaton.now (let p = c.requires.automaton_len in
+    omega arith))
+
+pub follow-requires : goal.follow-requires
+follow-requires c =
+    let p = c.requires in
+    let l = p.automaton_len.0 in
+    let both = ((length-take-le 256 c.args.automaton.now (omega arith), p.automaton_len.1), (p.reflexive, p.transitive)) in
+    record { closed_len = both.0; reflexive = both.1.0; transitive = both.1.1 }
