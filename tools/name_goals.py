@@ -107,6 +107,14 @@ def binders(term):
     return m.group(1).split(), t[m.end() :]
 
 
+class Part(Fails):
+    """The clauses from one on, as the pairs of the older form."""
+
+    def __init__(self, names):
+        super().__init__("a part of several clauses")
+        self.names = names
+
+
 class Function:
     def __init__(self, record):
         self.r = record
@@ -139,7 +147,7 @@ class Function:
         if rest and rest[0] == "0":
             return [names[k]] + rest[1:]
         if not rest:
-            raise Fails("a part of several clauses")
+            raise Part(names[k:])
         raise Fails(f"clause {fields}")
 
     def arm(self, place, old, rest):
@@ -249,7 +257,17 @@ class Function:
             head, fields = m.group(3), [f for f in m.group(4).split(".") if f]
             if head in env:
                 at_place, prefix, _ = env[head]
-                where, flat = self.resolve(at_place, prefix + fields, goal_place)
+                try:
+                    where, flat = self.resolve(at_place, prefix + fields, goal_place)
+                except Part as e:
+                    last = (prefix + fields)
+                    cut = max(i for i, w in enumerate(last) if w in ("requires", "ensures"))
+                    base = "c." + ("requires" if last[cut] == "requires" else ".".join(self.resolve(at_place, last[: cut], goal_place)[1] + ["ensures"]))
+                    text_of = f"{base}.{e.names[-1]}"
+                    for n in reversed(e.names[:-1]):
+                        text_of = f"({base}.{n}, {text_of})"
+                    out.append(text_of)
+                    continue
                 if where:
                     raise Fails(f"the place {m.group(0)} as it stands")
                 out.append(self.shown(env, head, flat))
@@ -293,8 +311,10 @@ def as_record(body, names):
         return body
     if last.startswith("(") and comma(last) and split_terms(last) == [last]:
         ps = parts(last)
+        while len(ps) < len(names) and ps[-1].startswith("(") and comma(ps[-1]) and split_terms(ps[-1]) == [ps[-1]]:
+            ps = ps[:-1] + parts(ps[-1])
         if len(ps) == len(names):
-            return head + " record { " + "; ".join(f"{a} = {b}" for a, b in zip(names, ps)) + " }"
+            return head.rstrip() + "\n    record { " + "; ".join(f"{a} = {b}" for a, b in zip(names, ps)) + " }"
     if re.fullmatch(r"(search rules|omega arith|grind arith)", last):
         return head + " record { " + "; ".join(f"{a} = {last}" for a in names) + " }"
     paths = [("1." * k + ("0" if k < len(names) - 1 else "")).rstrip(".") for k in range(len(names))]

@@ -69,6 +69,7 @@ fn skip(r: Reading, width: usize) -> Reading
 
 // Alternatives: what stands between the `|`, from the left.
 #[cycle(read_alt_read_atom_read_conj_read_post_read_pre_read_seq)]
+#[cycle(levels)]
 fn read_alt(s: &[u8], r: Reading, records: &mut [u64]) -> Reading
     requires { (r.offset + length s.now ≤ 255) × (length records.old ≡ 128) }
     ensures { Done alt s.now (at r records.old) (at result records.new) }
@@ -88,6 +89,7 @@ fn read_alt(s: &[u8], r: Reading, records: &mut [u64]) -> Reading
 
 // What stands between the `&`, from the left.
 #[cycle(read_alt_read_atom_read_conj_read_post_read_pre_read_seq)]
+#[cycle(levels)]
 fn read_conj(s: &[u8], r: Reading, records: &mut [u64]) -> Reading
     requires { (r.offset + length s.now ≤ 255) × (length records.old ≡ 128) }
     ensures { Done conj s.now (at r records.old) (at result records.new) }
@@ -107,6 +109,7 @@ fn read_conj(s: &[u8], r: Reading, records: &mut [u64]) -> Reading
 
 // A concatenation: operands one after another, from the left.
 #[cycle(read_alt_read_atom_read_conj_read_post_read_pre_read_seq)]
+#[cycle(levels)]
 fn read_seq(s: &[u8], r: Reading, records: &mut [u64]) -> Reading
     requires { (r.offset + length s.now ≤ 255) × (length records.old ≡ 128) }
     ensures { Done seq s.now (at r records.old) (at result records.new) }
@@ -125,6 +128,7 @@ fn read_seq(s: &[u8], r: Reading, records: &mut [u64]) -> Reading
 
 // An operand with what stands in front of it.
 #[cycle(read_alt_read_atom_read_conj_read_post_read_pre_read_seq)]
+#[cycle(levels)]
 fn read_pre(s: &[u8], r: Reading, records: &mut [u64]) -> Reading
     requires { (r.offset + length s.now ≤ 255) × (length records.old ≡ 128) }
     ensures { Done pre s.now (at r records.old) (at result records.new) }
@@ -140,6 +144,7 @@ fn read_pre(s: &[u8], r: Reading, records: &mut [u64]) -> Reading
 
 // An operand with the stars behind it.
 #[cycle(read_alt_read_atom_read_conj_read_post_read_pre_read_seq)]
+#[cycle(levels)]
 fn read_post(s: &[u8], r: Reading, records: &mut [u64]) -> Reading
     requires { (r.offset + length s.now ≤ 255) × (length records.old ≡ 128) }
     ensures { Done post s.now (at r records.old) (at result records.new) }
@@ -157,6 +162,7 @@ fn read_post(s: &[u8], r: Reading, records: &mut [u64]) -> Reading
 
 // A leaf, or alternatives in parentheses.
 #[cycle(read_alt_read_atom_read_conj_read_post_read_pre_read_seq)]
+#[cycle(levels)]
 fn read_atom(s: &[u8], r: Reading, records: &mut [u64]) -> Reading
     requires { (r.offset + length s.now ≤ 255) × (length records.old ≡ 128) }
     ensures { Done atom s.now (at r records.old) (at result records.new) }

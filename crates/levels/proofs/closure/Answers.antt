@@ -13,5 +13,4 @@ pub follow-requires : goal.follow-requires
 follow-requires c =
     let p = c.requires in
     let l = p.automaton_len.0 in
-    let both = ((length-take-le 256 c.args.automaton.now (omega arith), p.automaton_len.1), (p.reflexive, p.transitive)) in
-    record { closed_len = both.0; reflexive = both.1.0; transitive = both.1.1 }
+    record { closed_len = (length-take-le 256 c.args.automaton.now (omega arith), p.automaton_len.1); reflexive = p.reflexive; transitive = p.transitive }

@@ -11,7 +11,8 @@ use Rattle.levels.proofs.next_states.Goals as goal
 pub next-requires : goal.next-requires
 next-requires c =
     let p = c.requires in
-    let l = p.automaton_len.0 in record { letters_len = (length-take-le 512 (drop 256 c.args.automaton.now) (simp length-drop (omega arith)), p.automaton_len.1, c.wide.ensures.1); by_index = λ s k d. p.by_index c.wide.result s k d }
+    let l = p.automaton_len.0 in
+    record { letters_len = (length-take-le 512 (drop 256 c.args.automaton.now) (simp length-drop (omega arith)), p.automaton_len.1, c.wide.ensures.1); by_index = λ s k d. p.by_index c.wide.result s k d }
 
 pub returns : goal.returns
 returns c =

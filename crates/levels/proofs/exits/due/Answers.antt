@@ -9,7 +9,8 @@ use Rattle.levels.proofs.exits.due.Goals as goal
 
 pub exits_of-states-requires : goal.exits_of-states-requires
 exits_of-states-requires c =
-    let p = c.requires in record { entries_len = p.exits_len.2; entries = λ s l d. p.entries s l (p.full_at s l d).0 }
+    let p = c.requires in
+    record { entries_len = p.exits_len.2; entries = λ s l d. p.entries s l (p.full_at s l d).0 }
 
 pub loop-done-init : goal.loop-done-init
 loop-done-init c =

@@ -18,7 +18,8 @@ pub put_full-requires : goal.put_full-requires
 put_full-requires c =
     let p = c.requires in
     let s = (p.room 0).short in
-    let j = p.s_bound.2 in record { exits_len = (c.join_row.ensures.long ∙ p.firsts_len.1, p.firsts_len.3, p.s_bound.0, omega arith, omega arith); s_value = p.s_bound.1 }
+    let j = p.s_bound.2 in
+    record { exits_len = (c.join_row.ensures.long ∙ p.firsts_len.1, p.firsts_len.3, p.s_bound.0, omega arith, omega arith); s_value = p.s_bound.1 }
 
 pub test-requires-2 : goal.test-requires-2
 test-requires-2 c =
@@ -29,4 +30,5 @@ pub returns : goal.returns
 returns c =
     let p = c.requires in
     let s = (p.room 0).short in
-    let j = p.s_bound.2 in record { node = enter_law p.s_bound.1 c.read_row-row.ensures c.test.ensures c.join_row.ensures c.put_in_two.ensures c.put_full.ensures; here = c.test-2.ensures ∙ c.read_row-row.ensures _ (omega arith) }
+    let j = p.s_bound.2 in
+    record { node = enter_law p.s_bound.1 c.read_row-row.ensures c.test.ensures c.join_row.ensures c.put_in_two.ensures c.put_full.ensures; here = c.test-2.ensures ∙ c.read_row-row.ensures _ (omega arith) }

@@ -37,8 +37,7 @@ enter-at_once-requires c =
     let w = c.find_missing-s.ensures.within in
     let e = entry_even _ _ _ _ _ _ _ _ _ _ i c.intersect-inner.ensures c.find_missing-s.ensures c.if-s-eq128.false in
     let l = i.lengths in
-    let both = ((c.requires.closed_len.2, l.0, l.1, l.2), ((omega arith, e, i.ground.number), i.ground.room)) in
-    record { firsts_len = both.0; s_bound = both.1.0; room = both.1.1 }
+    record { firsts_len = (c.requires.closed_len.2, l.0, l.1, l.2); s_bound = (omega arith, e, i.ground.number); room = i.ground.room }
 
 pub lead_if-requires : goal.lead_if-requires
 lead_if-requires c =
