@@ -376,6 +376,9 @@ def turn(text, record, crate, path):
             body = re.sub(rf"(?<![\w.'-]){re.escape(vs[0])}(?=\.)", "c", body)
         place = record["asked_at"][k][0]
         body = f.body(body, place, place)
+        bound = [v for v in vs[1:] if v != "κs"]
+        if bound:
+            body = f"λ {' '.join(bound)}.\n    {body.strip()}"
         if new.startswith("shape_of-") and re.fullmatch(r"c\.[\w+-]+\.auto\.\w+", strip(body)):
             continue
         names = record["asked"].get(old) or record["asked"].get(new)
