@@ -12,14 +12,17 @@ use Rattle.rule_line.proofs.text.read_rule.Goals as goal
 
 pub returns-then-text-eq0 : goal.returns-then-text-eq0
 returns-then-text-eq0 c =
+    λ ls k.
     refused_says ls _ _ c.refused_rule.ensures (judged_empty ls _ c.if-text-eq0.true)
 
 pub returns-then-text-gt-MOST_BYTES : goal.returns-then-text-gt-MOST_BYTES
 returns-then-text-gt-MOST_BYTES c =
+    λ ls k.
     refused_says ls _ _ c.refused_rule-then-text-gt-MOST_BYTES.ensures (judged_long ls _ c.if-text-gt-MOST_BYTES.true)
 
 pub returns-then-find_foreign-text : goal.returns-then-find_foreign-text
 returns-then-find_foreign-text c =
+    λ ls k.
     let s = c.args.text.now in
     let h : leading is_written s < length s = omega (arith, c.find_foreign.ensures, c.if-find_foreign-text.true) in
     let n = c.if-text-eq0.false in
@@ -48,12 +51,14 @@ slice_bounds-all_known-end c =
 
 pub returns-then-find_unordered-text : goal.returns-then-find_unordered-text
 returns-then-find_unordered-text c =
+    λ ls k.
     let l = legal_found c.args.text.now _ c.if-text-eq0.false c.if-text-gt-MOST_BYTES.false c.find_foreign.ensures c.if-find_foreign-text.false in
     refused_says ls _ _ c.refused_rule-then-find_unordered-text.ensures
     (judged_unordered _ _ _ _ _ _ k _ l _ _ _ c.cut-n.ensures c.cut-n.auto.shape c.cut-n.auto.origins (sym c.scan.ensures ∙ c.in-Complete.is) (sym c.all_known.ensures ∙ c.if-all_known.true) c.find_unordered.ensures c.if-find_unordered-text.true)
 
 pub returns-then-find_double-text : goal.returns-then-find_double-text
 returns-then-find_double-text c =
+    λ ls k.
     let l = legal_found c.args.text.now _ c.if-text-eq0.false c.if-text-gt-MOST_BYTES.false c.find_foreign.ensures c.if-find_foreign-text.false in
     refused_says ls _ _ c.refused_rule-then-find_double-text.ensures
     (judged_double _ _ _ _ _ _ k _ l _ _ _ c.cut-n.ensures c.cut-n.auto.shape c.cut-n.auto.origins (sym c.scan.ensures ∙ c.in-Complete.is) (sym c.all_known.ensures ∙ c.if-all_known.true) c.find_unordered.ensures c.if-find_unordered-text.false c.find_double.ensures c.if-find_double-text.true)
@@ -75,16 +80,19 @@ read_sentence-requires c =
 
 pub returns-then-all_known : goal.returns-then-all_known
 returns-then-all_known c =
+    λ ls k.
     let l = legal_found c.args.text.now _ c.if-text-eq0.false c.if-text-gt-MOST_BYTES.false c.find_foreign.ensures c.if-find_foreign-text.false in
     says _ _ _ _ _ _ k _ l _ _ _ c.cut-n.ensures c.cut-n.auto.shape c.cut-n.auto.origins (sym c.scan.ensures ∙ c.in-Complete.is) (sym c.all_known.ensures ∙ c.if-all_known.true) c.find_unordered.ensures c.if-find_unordered-text.false c.find_double.ensures c.if-find_double-text.false _ c.read_sentence.ensures
 
 pub returns-in-Broken : goal.returns-in-Broken
 returns-in-Broken c =
+    λ ls k.
     let l = legal_found c.args.text.now _ c.if-text-eq0.false c.if-text-gt-MOST_BYTES.false c.find_foreign.ensures c.if-find_foreign-text.false in
     refused_says ls _ _ c.refused_rule-in-Broken.ensures (judged_broken _ _ _ _ _ _ k _ l _ _ _ c.cut-n.ensures c.cut-n.auto.shape c.cut-n.auto.origins (sym c.scan.ensures ∙ c.in-Broken.is))
 
 pub returns-else-all_known : goal.returns-else-all_known
 returns-else-all_known c =
+    λ ls k.
     let l = legal_found c.args.text.now _ c.if-text-eq0.false c.if-text-gt-MOST_BYTES.false c.find_foreign.ensures c.if-find_foreign-text.false in
     refused_says ls _ _ c.refused_rule-in-Complete.ensures
     (judged_unknown _ _ _ _ _ _ k _ l _ _ _ c.cut-n.ensures c.cut-n.auto.shape c.cut-n.auto.origins (sym c.scan.ensures ∙ c.in-Complete.is) (sym c.all_known.ensures ∙ c.if-all_known.false))
