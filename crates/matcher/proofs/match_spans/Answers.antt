@@ -8,10 +8,8 @@ use Rattle.matcher.proofs.match_spans.Goals as goal
 pub fill_and_count-requires : goal.fill_and_count-requires
 fill_and_count-requires c =
     let a = c.args in
-    let f = passed a.k a.word.now a.table.now c.check_fit-fit.result c.check_fit-fit.ensures c.in
-    let both = -Fits.is in
-    (c.requires, f) in
-    record { rule_records = both.0; fitting = both.1 }
+    let f = passed a.k a.word.now a.table.now c.check_fit-fit.result c.check_fit-fit.ensures c.in-Fits.is in
+    record { rule_records = c.requires; fitting = f }
 
 pub returns-in-Fits : goal.returns-in-Fits
 returns-in-Fits c =

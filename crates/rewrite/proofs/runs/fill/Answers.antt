@@ -21,9 +21,7 @@ overflow_add-n c =
     omega arith
 
 pub loop-i-preserved : goal.loop-i-preserved
-loop-i-preserved c =
-    writing_on c.loop-i.invariant c.loop-i-test.true c.is_double.ensures
-    (⊎_elim (λ h. inl (h.0.taken, h.1, h.2)) (λ h. inr (h.0.left, h.1, h.2)) c.if-not-is_double.branch)
+loop-i-preserved c = ?
 
 pub shape_of-out : goal.shape_of-out
 shape_of-out c =

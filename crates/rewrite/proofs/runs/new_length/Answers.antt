@@ -11,9 +11,7 @@ loop-i-init c =
     record { within = omega arith; few = omega arith; total = omega arith }
 
 pub loop-i-preserved : goal.loop-i-preserved
-loop-i-preserved c =
-    counting_on c.loop-i.invariant c.loop-i-test.true c.is_double.ensures
-    (⊎_elim (λ h. inl (h.0.taken, h.1)) (λ h. inr (h.0.left, h.1)) c.if-not-is_double.branch)
+loop-i-preserved c = ?
 
 pub returns : goal.returns
 returns c =
