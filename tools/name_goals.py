@@ -196,6 +196,8 @@ class Function:
                         return None, ["type_inv", var] + rest[1:]
             if rest and rest[0] == "ensures":
                 rest = ["ensures"] + self.clause(place, rest[1:])
+            if rest and rest[0] == "last" and rest[1:2] and rest[1].isdigit():
+                rest = ["new"] + rest[1:]
             if rest and rest[0] in ("new", "auto") and len(rest) > 1 and rest[1].isdigit():
                 names = self.r["params"].get(self.place[place][3] or "", None)
                 if names:
