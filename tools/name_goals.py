@@ -205,7 +205,7 @@ class Function:
                     while k < len(rest) and rest[k] == "1" and k < len(names):
                         k += 1
                     rest = [rest[0], names[k - 1]] + rest[k + 1 if k < len(rest) and rest[k] == "0" else k :]
-            if new.startswith("in_default") and rest and rest[0] == "rest":
+            if new.startswith("in_default") and rest and re.match(r"rest$|keys\d+$", rest[0]):
                 rest = [new + "-own"] + rest
             return None, [new] + rest
         if place == "Start" or self.place[place][1] is None:

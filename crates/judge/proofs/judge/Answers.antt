@@ -14,7 +14,7 @@ pub returns-in-Accepted : goal.returns-in-Accepted
 returns-in-Accepted c =
     let r = c.read-reading in
     let a = c.args in
-    let both = clauses (c.matched.ensures c.match_spans.last.1.1.1.1.1.0 ∙ c.match_spans.ensures.value
+    let both = clauses (c.matched.ensures c.match_spans.new.table ∙ c.match_spans.ensures.value
     ∙ after_acceptance a.rule.now a.word.now a.limit a.table.now r.result r.ensures.value c.in-Accepted.m c.in-Accepted.k c.in-Accepted.is) in
     record { value = both.0; meaning = both.1.0; bound = both.1.1 }
 

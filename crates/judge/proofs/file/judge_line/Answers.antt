@@ -7,9 +7,9 @@ use Rattle.judge.proofs.file.judge_line.Goals as goal
 pub returns-in-Accepted : goal.returns-in-Accepted
 returns-in-Accepted c =
     let m = c.match_spans-outcome in
-    ap (λ (x : Outcome). match_values x m.last.1.1.1.1.1.0) (sym c.in-Accepted.is) ∙ m.ensures.value
+    ap (λ (x : Outcome). match_values x m.new.table) (sym c.in-Accepted.is) ∙ m.ensures.value
 
 pub returns-in-Refused : goal.returns-in-Refused
 returns-in-Refused c =
     let m = c.match_spans-outcome in
-    ap (λ (x : Outcome). match_values x m.last.1.1.1.1.1.0) (sym c.in-Refused.is) ∙ m.ensures.value
+    ap (λ (x : Outcome). match_values x m.new.table) (sym c.in-Refused.is) ∙ m.ensures.value
