@@ -36,7 +36,7 @@ returns-in_default c =
     let v = c.outcome_verdict in
     c.refused.ensures a.out.now
     ∙ day_stop a.rule.now a.m a.k a.out.now (day_answer a.file.now (replicate 255 0) (replicate 255 0)) r.result
-    r.new.letters r.new.seconds v.result r.ensures.value c.in_default.keys2 v.ensures
+    r.new.letters r.new.seconds v.result r.ensures.value c.in_default.in_default-own.keys2 v.ensures
 
 pub slice_bounds-letters-end : goal.slice_bounds-letters-end
 slice_bounds-letters-end c =

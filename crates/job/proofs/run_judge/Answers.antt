@@ -11,6 +11,7 @@ use Rattle.judge.specs.JudgeComputed.{judge_answer}
 use Rattle.judge.specs.declared.Outcome.{Outcome}
 use Rattle.job.specs.JobComputed.{JobResult, written, limit_of}
 use Rattle.job.proofs.Steps.{judge_stop, judge_pass}
+use borrow.Enum.Refused.{opened}
 use Rattle.job.proofs.run_judge.Goals as goal
 
 -- a job's spans, twice
@@ -44,7 +45,7 @@ returns-in_default c =
     let n = length a.word.now in
     c.refused.ensures a.out.now
     ∙ judge_stop n a.m a.k a.out.now (judge_answer a.rule.now a.word.now (limit_of a.m n) (replicate 8192 0)) r.result
-    r.new.table v.result r.ensures.value c.in_default.keys2 v.ensures
+    r.new.table v.result r.ensures.value (opened c.in_default.in_default-own.keys2) v.ensures
 
 pub slice_bounds-list-end : goal.slice_bounds-list-end
 slice_bounds-list-end c =

@@ -15,7 +15,7 @@ returns-in_default c =
     let v = c.outcome_verdict in
     c.refused.ensures a.out.now
     ∙ rule_stop a.rule.now a.file.now a.out.now r.result.outcome r.result.nodes v.result r.ensures.value
-    c.in_default.keys2 v.ensures
+    c.in_default.in_default-own.keys2 v.ensures
 
 pub run_day-requires : goal.run_day-requires
 run_day-requires c =
