@@ -16,12 +16,11 @@ returns-then-letters-n c =
     record { value = both.0; meaning = both.1 }
 
 pub fill-requires : goal.fill-requires
-fill-requires c =
-    (
-      c.if-letters-n.false,
-      c.if-seconds-n.false,
-      all_formed c.args.file.now _ _ c.check_lines.ensures c.in-Good.is,
-    )
+fill-requires c = (
+  c.if-letters-n.false,
+  c.if-seconds-n.false,
+  all_formed c.args.file.now _ _ c.check_lines.ensures c.in-Good.is,
+)
 
 pub returns-in-Bad : goal.returns-in-Bad
 returns-in-Bad c =

@@ -45,11 +45,10 @@ loop-followed-smaller c =
     next_less c.next_state-k.ensures c.if-k-eq128.false c.mark_followed.ensures (inl refl)
 
 pub loop-followed-preserved : goal.loop-followed-preserved
-loop-followed-preserved c =
-    (
-      c.merge_row.ensures.long ∙ c.loop-followed.invariant.0,
-      c.mark_followed.ensures.long ∙ c.loop-followed.invariant.1,
-      λ m f.
-          completing_turn c.requires.1 (c.loop-followed.invariant.2 m f) c.next_state-k.ensures c.if-k-eq128.false c.merge_row.ensures
-          c.mark_followed.ensures,
-    )
+loop-followed-preserved c = (
+  c.merge_row.ensures.long ∙ c.loop-followed.invariant.0,
+  c.mark_followed.ensures.long ∙ c.loop-followed.invariant.1,
+  λ m f.
+      completing_turn c.requires.1 (c.loop-followed.invariant.2 m f) c.next_state-k.ensures c.if-k-eq128.false c.merge_row.ensures
+      c.mark_followed.ensures,
+)

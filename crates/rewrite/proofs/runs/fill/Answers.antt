@@ -26,8 +26,9 @@ pub loop-i-preserved : goal.loop-i-preserved
 loop-i-preserved c =
     writing_on c.loop-i.invariant c.loop-i-test.true c.is_double.ensures
     (elim c.if-not-is_double.branch [
-      then-not-is_double w ↦ inl (ap not w.if-not-is_double.true, w.out-is, w.n-is)
-    | else-not-is_double w ↦ inr (ap not w.if-not-is_double.false, w.out-is, w.n-is) ])
+      | then-not-is_double w ↦ inl (ap not w.if-not-is_double.true, w.out-is, w.n-is)
+      | else-not-is_double w ↦ inr (ap not w.if-not-is_double.false, w.out-is, w.n-is)
+    ])
 
 pub shape_of-out : goal.shape_of-out
 shape_of-out c =

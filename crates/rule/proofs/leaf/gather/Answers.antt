@@ -21,8 +21,7 @@ loop-i-smaller c =
 
 pub loop-i-preserved : goal.loop-i-preserved
 loop-i-preserved c =
-    let s = c.args.s.now in
-    (
+    let s = c.args.s.now in (
       omega (arith, c.loop-i-test.true),
       c.loop-i.invariant.1 ∙ gathered_on s c.loop-i.i c.loop-i.set c.loop-i-test.true
           ∙ ap (λ (q : LetterSet). gathered q (drop (c.loop-i.i + 1) s)) (sym c.plus-set.ensures),

@@ -24,8 +24,7 @@ returns-then-a-i c =
 
 pub loop-i-preserved : goal.loop-i-preserved
 loop-i-preserved c =
-    let a = c.args in
-    (
+    let a = c.args in (
       omega arith,
       c.loop-i.invariant.1,
       c.loop-i.invariant.2 ∙ same_on a.a.now a.b.now c.loop-i.i (omega arith) c.loop-i.invariant.1 c.if-a-i.false,
