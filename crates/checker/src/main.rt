@@ -137,10 +137,6 @@ fn put_line(line: Line, out: &mut [u8]) -> usize
     ensures { (result ≡ line.len) × (take result out.new ≡ take line.len line.bytes) }
 {
     let n = line.len;
-    let mut i = 0;
-    while i < n {
-        out[i] = line.bytes[i];
-        i += 1;
-    }
+    out[..n].copy_from_slice(&line.bytes[..n]);
     n
 }
