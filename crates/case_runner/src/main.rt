@@ -9,16 +9,30 @@ mod numbers;
 mod output;
 mod show;
 
-use std::io;
-use std::io::{BufWriter, Read, Write};
+ghost use Rattle.std.specs.Prelude.{◌≤◌, length};
+
+use std::io::Read;
 
 // No stream of cases is longer: what follows is unread.
-const MOST_BYTES: u64 = 65536;
+const MOST_BYTES: usize = 65536;
 
-fn main(rt: HostRuntime) -> io::Result<()> {
-    let mut space = Vec::new(rt.alloc());
-    rt.stdin().take(MOST_BYTES).read_to_end(&mut space)?;
-    let mut out = BufWriter::new(rt.alloc(), rt.stdout())?;
-    cases::answer_all(&mut out, space.as_slice())?;
-    out.flush()
+fn main(rt: HostRuntime) {
+    let mut space = [0u8; MOST_BYTES];
+    let got = read_full(&mut rt.stdin(), &mut space);
+    cases::answer_all(&mut rt.stdout(), &space[..got]);
+}
+
+// Reads until the buffer is full, or the input ends or fails; answers how many bytes were read.
+fn read_full<R: Read>(reader: &mut R, buf: &mut [u8]) -> usize
+    ensures { result ≤ length buf.new }
+{
+    let mut done = 0;
+    while done < buf.len() {
+        match reader.read(&mut buf[done..]) {
+            Ok(0) => return done,
+            Ok(n) => done += n,
+            Err(_) => return done,
+        }
+    }
+    done
 }

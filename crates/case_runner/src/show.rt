@@ -6,22 +6,20 @@ use day::Outcome as DayOutcome;
 use event::sets;
 use event::sets::LetterSet;
 use expression::{Kind, Node};
-use std::io;
 use std::io::Write;
 use verdict::Verdict;
 
 // The letters of a set, rising.
-fn print_set<W: Write>(out: &mut W, set: LetterSet) -> io::Result<()> {
+fn print_set<W: Write>(out: &mut W, set: LetterSet) {
     let mut index = sets::next_index(set, 0);
     while index < 52 {
-        print(out, &[sets::letter_at(index)])?;
+        print(out, &[sets::letter_at(index)]);
         index = sets::next_index(set, index + 1);
     }
-    Ok(())
 }
 
 // A set's letters, or the sign of another kind; a dot stands for concatenation.
-fn print_kind<W: Write>(out: &mut W, kind: Kind) -> io::Result<()> {
+fn print_kind<W: Write>(out: &mut W, kind: Kind) {
     match kind {
         Kind::Empty => print(out, b"0"),
         Kind::Epsilon => print(out, b"1"),
@@ -34,126 +32,112 @@ fn print_kind<W: Write>(out: &mut W, kind: Kind) -> io::Result<()> {
     }
 }
 
-fn print_node<W: Write>(out: &mut W, node: Node) -> io::Result<()> {
-    print_decimal(out, node.offset as u64)?;
-    print(out, b":")?;
+fn print_node<W: Write>(out: &mut W, node: Node) {
+    print_decimal(out, node.offset as u64);
+    print(out, b":");
     let kind = node.kind;
-    print_kind(out, kind)
+    print_kind(out, kind);
 }
 
 // A 64-bit number behind a tab.
-fn print_field<W: Write>(out: &mut W, n: u64) -> io::Result<()> {
-    print(out, b"\t")?;
-    print_decimal(out, n)
+fn print_field<W: Write>(out: &mut W, n: u64) {
+    print(out, b"\t");
+    print_decimal(out, n);
 }
 
 // Number, place, found and count.
-pub fn print_verdict<W: Write>(out: &mut W, verdict: Verdict) -> io::Result<()> {
-    print_field(out, verdict.number)?;
-    print_field(out, verdict.place)?;
-    print_field(out, verdict.found)?;
-    print_field(out, verdict.count)
+pub fn print_verdict<W: Write>(out: &mut W, verdict: Verdict) {
+    print_field(out, verdict.number);
+    print_field(out, verdict.place);
+    print_field(out, verdict.found);
+    print_field(out, verdict.count);
 }
 
 // The first m records, or a dash.
-fn print_records<W: Write>(out: &mut W, nodes: [Node; 64], m: usize) -> io::Result<()> {
+fn print_records<W: Write>(out: &mut W, nodes: [Node; 64], m: usize) {
     if m == 0 {
-        print(out, b"-")?;
+        print(out, b"-");
     }
     for i in 0..64 {
         if i < m {
             if 0 < i {
-                print(out, b";")?;
+                print(out, b";");
             }
-            print_node(out, nodes[i])?;
+            print_node(out, nodes[i]);
         }
     }
-    Ok(())
 }
 
-fn print_rule<W: Write>(
-    out: &mut W,
-    verdict: Verdict,
-    m: usize,
-    k: usize,
-    nodes: [Node; 64],
-) -> io::Result<()> {
-    print(out, b"rule")?;
-    print_verdict(out, verdict)?;
-    print_number(out, b'\t', m)?;
-    print_number(out, b'\t', k)?;
-    print(out, b"\t")?;
-    print_records(out, nodes, m)?;
-    print(out, b"\n")
+fn print_rule<W: Write>(out: &mut W, verdict: Verdict, m: usize, k: usize, nodes: [Node; 64]) {
+    print(out, b"rule");
+    print_verdict(out, verdict);
+    print_number(out, b'\t', m);
+    print_number(out, b'\t', k);
+    print(out, b"\t");
+    print_records(out, nodes, m);
+    print(out, b"\n");
 }
 
 // Reads a rule text and prints the answer.
-pub fn answer_rule<W: Write>(out: &mut W, text: &[u8]) -> io::Result<()> {
+pub fn answer_rule<W: Write>(out: &mut W, text: &[u8]) {
     let rule = rule::read(text);
     let outcome = rule.outcome;
     let nodes = rule.nodes;
     let verdict = rule::outcome_verdict(outcome);
     let m = rule::node_count(outcome);
     let k = rule::special_count(outcome);
-    print_rule(out, verdict, m, k, nodes)
+    print_rule(out, verdict, m, k, nodes);
 }
 
 // A buffer's element, with a comma in front unless it is the first.
-fn print_element<W: Write>(out: &mut W, i: usize, x: u32) -> io::Result<()> {
+fn print_element<W: Write>(out: &mut W, i: usize, x: u32) {
     if 0 < i {
-        print(out, b",")?;
+        print(out, b",");
     }
-    print_decimal(out, x as u64)
+    print_decimal(out, x as u64);
 }
 
 fn wide(b: u8) -> u32 {
     b as u32
 }
 
-fn print_letters<W: Write>(out: &mut W, letters: &[u8]) -> io::Result<()> {
-    print(out, b"\t")?;
+fn print_letters<W: Write>(out: &mut W, letters: &[u8]) {
+    print(out, b"\t");
     if letters.len() == 0 {
-        print(out, b"-")?;
+        print(out, b"-");
     }
     for i in 0..letters.len() {
-        print_element(out, i, wide(letters[i]))?;
+        print_element(out, i, wide(letters[i]));
     }
-    Ok(())
 }
 
-fn print_seconds<W: Write>(out: &mut W, seconds: &[u32]) -> io::Result<()> {
-    print(out, b"\t")?;
+fn print_seconds<W: Write>(out: &mut W, seconds: &[u32]) {
+    print(out, b"\t");
     if seconds.len() == 0 {
-        print(out, b"-")?;
+        print(out, b"-");
     }
     for i in 0..seconds.len() {
-        print_element(out, i, seconds[i])?;
+        print_element(out, i, seconds[i]);
     }
-    Ok(())
 }
 
-fn print_day<W: Write>(out: &mut W, verdict: Verdict, n: usize) -> io::Result<()> {
-    print(out, b"day")?;
-    print_verdict(out, verdict)?;
-    print_number(out, b'\t', n)
+fn print_day<W: Write>(out: &mut W, verdict: Verdict, n: usize) {
+    print(out, b"day");
+    print_verdict(out, verdict);
+    print_number(out, b'\t', n);
 }
 
-fn print_outcome<W: Write>(out: &mut W, outcome: DayOutcome) -> io::Result<()> {
+fn print_outcome<W: Write>(out: &mut W, outcome: DayOutcome) {
     let verdict = day::outcome_verdict(outcome);
-    print_day(out, verdict, day::event_count(outcome))
+    print_day(out, verdict, day::event_count(outcome));
 }
 
 // Reads a day file into the two buffers and prints the answer, and the buffers whole.
-fn answer_in<W: Write>(
-    out: &mut W,
-    file: &[u8],
-    letters: &mut [u8],
-    seconds: &mut [u32],
-) -> io::Result<()> {
-    print_outcome(out, day::read(file, letters, seconds))?;
-    print_letters(out, letters)?;
-    print_seconds(out, seconds)?;
-    print(out, b"\n")
+fn answer_in<W: Write>(out: &mut W, file: &[u8], letters: &mut [u8], seconds: &mut [u32]) {
+    print_outcome(out, day::read(file, letters, seconds));
+    print_letters(out, letters);
+    print_seconds(out, seconds);
+    print(out, b"\n");
 }
 
 // What a buffer's element is before the call: nothing that a day could put there.
@@ -193,14 +177,14 @@ fn answer_in_part<W: Write>(
     m: usize,
     seconds: &mut [u32],
     n: usize,
-) -> io::Result<()> {
+) {
     if letters.len() < m {
-        return Ok(());
+        return;
     }
     if seconds.len() < n {
-        return Ok(());
+        return;
     }
-    answer_in(out, file, &mut letters[..m], &mut seconds[..n])
+    answer_in(out, file, &mut letters[..m], &mut seconds[..n]);
 }
 
 // Reads a day file into buffers of these lengths, 1,024 at most, and prints the answer.
@@ -209,7 +193,7 @@ pub fn answer_day<W: Write>(
     file: &[u8],
     letters_length: usize,
     seconds_length: usize,
-) -> io::Result<()> {
+) {
     let mut letters = letters_before();
     let mut seconds = seconds_before();
     answer_in_part(
