@@ -19,7 +19,7 @@ class Fails(Exception):
 
 
 def norm(s):
-    return s.replace("-", "_")
+    return s.replace("-", "_").lower()
 
 
 def same(f, old):

@@ -1,4 +1,6 @@
 // The owners of a rule: each special node in its turn, inner ones first, and the whole rule last, fills its block of the span table.
+#![tactic(auto)]
+
 mod automaton;
 mod blocks;
 mod sides;

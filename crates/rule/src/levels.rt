@@ -68,7 +68,6 @@ fn skip(r: Reading, width: usize) -> Reading
 }
 
 // Alternatives: what stands between the `|`, from the left.
-#[cycle(read_alt_read_atom_read_conj_read_post_read_pre_read_seq)]
 #[cycle(levels)]
 fn read_alt(s: &[u8], r: Reading, records: &mut [u64]) -> Reading
     requires { (r.offset + length s.now ≤ 255) × (length records.old ≡ 128) }
@@ -88,7 +87,6 @@ fn read_alt(s: &[u8], r: Reading, records: &mut [u64]) -> Reading
 }
 
 // What stands between the `&`, from the left.
-#[cycle(read_alt_read_atom_read_conj_read_post_read_pre_read_seq)]
 #[cycle(levels)]
 fn read_conj(s: &[u8], r: Reading, records: &mut [u64]) -> Reading
     requires { (r.offset + length s.now ≤ 255) × (length records.old ≡ 128) }
@@ -108,7 +106,6 @@ fn read_conj(s: &[u8], r: Reading, records: &mut [u64]) -> Reading
 }
 
 // A concatenation: operands one after another, from the left.
-#[cycle(read_alt_read_atom_read_conj_read_post_read_pre_read_seq)]
 #[cycle(levels)]
 fn read_seq(s: &[u8], r: Reading, records: &mut [u64]) -> Reading
     requires { (r.offset + length s.now ≤ 255) × (length records.old ≡ 128) }
@@ -127,7 +124,6 @@ fn read_seq(s: &[u8], r: Reading, records: &mut [u64]) -> Reading
 }
 
 // An operand with what stands in front of it.
-#[cycle(read_alt_read_atom_read_conj_read_post_read_pre_read_seq)]
 #[cycle(levels)]
 fn read_pre(s: &[u8], r: Reading, records: &mut [u64]) -> Reading
     requires { (r.offset + length s.now ≤ 255) × (length records.old ≡ 128) }
@@ -143,7 +139,6 @@ fn read_pre(s: &[u8], r: Reading, records: &mut [u64]) -> Reading
 }
 
 // An operand with the stars behind it.
-#[cycle(read_alt_read_atom_read_conj_read_post_read_pre_read_seq)]
 #[cycle(levels)]
 fn read_post(s: &[u8], r: Reading, records: &mut [u64]) -> Reading
     requires { (r.offset + length s.now ≤ 255) × (length records.old ≡ 128) }
@@ -161,7 +156,6 @@ fn read_post(s: &[u8], r: Reading, records: &mut [u64]) -> Reading
 }
 
 // A leaf, or alternatives in parentheses.
-#[cycle(read_alt_read_atom_read_conj_read_post_read_pre_read_seq)]
 #[cycle(levels)]
 fn read_atom(s: &[u8], r: Reading, records: &mut [u64]) -> Reading
     requires { (r.offset + length s.now ≤ 255) × (length records.old ≡ 128) }

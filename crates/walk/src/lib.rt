@@ -1,4 +1,6 @@
 // The block of an owner: its walks from every start, the rows of its block, and the count of the places that they visit.
+#![tactic(auto)]
+
 mod cache;
 mod level;
 mod starts;
