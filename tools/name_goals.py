@@ -228,7 +228,7 @@ class Function:
         """A term at a place, its variable being c, with flat paths."""
         env = {"c": (place, [], None)}
         out, at = [], 0
-        pattern = re.compile(r"let\s+([\w'₀₁₂₃]+)\s*=\s*([A-Za-z][\w']*(?:\.[\w'-]+)*)\s+in\b\s*")
+        pattern = re.compile(r"let\s+([\w'₀₁₂₃]+)\s*=\s*([A-Za-z][\w']*(?:\.[\w'-]+)*)\s+in(?![\w'-])\s*")
         token = re.compile(pattern.pattern + "|" + PATH.pattern)
         while True:
             m = token.search(text, at)
@@ -286,7 +286,7 @@ def lets(body):
         if not m:
             return body[:at], body[at:].strip()
         depth, nest, i = 0, 0, m.end()
-        word = re.compile(r"\b(let|in)\b|[()\[\]{}]")
+        word = re.compile(r"(?<![\w.'-])(let|in)(?![\w'-])|[()\[\]{}]")
         while True:
             t = word.search(body, i)
             if not t:
@@ -376,6 +376,9 @@ def turn(text, record, crate, path):
             body = re.sub(rf"(?<![\w.'-]){re.escape(vs[0])}(?=\.)", "c", body)
         place = record["asked_at"][k][0]
         body = f.body(body, place, place)
+        bound = [v for v in vs[1:] if v != "κs"]
+        if bound:
+            body = f"λ {' '.join(bound)}.\n    {body.strip()}"
         if new.startswith("shape_of-") and re.fullmatch(r"c\.[\w+-]+\.auto\.\w+", strip(body)):
             continue
         names = record["asked"].get(old) or record["asked"].get(new)

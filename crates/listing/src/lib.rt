@@ -1,4 +1,6 @@
 // The program's output: the listing of the spans that a block marks, and the line of a refusal.
+#![tactic(auto)]
+
 mod fields;
 mod spans;
 

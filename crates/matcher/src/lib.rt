@@ -1,5 +1,7 @@
 // The judge of a rule that was read: which spans of a word obey the rule of some records, in a lent table, within a lent limit of work.
 // In two steps, for callers that have a check of their own between them: word and table are checked, then the table is filled.
+#![tactic(auto)]
+
 mod word;
 
 ghost use Rattle.std.specs.Prelude.{◌≡◌, ◌≤◌};

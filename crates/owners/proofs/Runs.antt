@@ -18,8 +18,8 @@ module _ (i k : ℕ) (p m r : List ℕ) (e : length p ≡ i) (d : length m ≡ k
   mid_is : mid_of i k (p ++ (m ++ r)) ≡ m
   mid_is = ap (take k) (drop_at p (m ++ r) i e) ∙ take_at m r k d
 
-  put_mid : (y : List ℕ) → put_mid i k (p ++ (m ++ r)) y ≡ p ++ (y ++ r)
-  put_mid y = rw (take_at p (m ++ r) i e, drop_at p (m ++ r) i e, drop_at m r k d) refl
+  put_mid_lem : (y : List ℕ) → put_mid i k (p ++ (m ++ r)) y ≡ p ++ (y ++ r)
+  put_mid_lem y = rw (take_at p (m ++ r) i e, drop_at p (m ++ r) i e, drop_at m r k d) refl
 
 -- ---- the parts
 pub record Parted (x a b c d : List ℕ) : Type 0 where
@@ -83,7 +83,7 @@ module _ {x a b c d : List ℕ} (p : Parted x a b c d) where
 
   pub letters_put : (y : List ℕ) → length y ≡ length (letter_part x) → Parted (put_mid 256 512 x y) a y c d
   letters_put y e = record {
-    all = ap (λ (z : List ℕ). put_mid 256 512 z y) p.all ∙ put_mid 256 512 a b (c ++ d) p.closed p.letters y;
+    all = ap (λ (z : List ℕ). put_mid 256 512 z y) p.all ∙ put_mid_lem 256 512 a b (c ++ d) p.closed p.letters y;
     closed = p.closed;
     letters = e ∙ ap length letters_are ∙ p.letters;
     specials = p.specials;
@@ -92,7 +92,7 @@ module _ {x a b c d : List ℕ} (p : Parted x a b c d) where
 
   pub specials_put : (y : List ℕ) → length y ≡ length (special_part x) → Parted (put_mid 768 2 x y) a b y d
   specials_put y e = record {
-    all = ap (λ (z : List ℕ). put_mid 768 2 z y) behind_two ∙ put_mid 768 2 (a ++ b) c d two p.specials y ∙ append_assoc a b (y ++ d);
+    all = ap (λ (z : List ℕ). put_mid 768 2 z y) behind_two ∙ put_mid_lem 768 2 (a ++ b) c d two p.specials y ∙ append_assoc a b (y ++ d);
     closed = p.closed;
     letters = p.letters;
     specials = e ∙ ap length specials_are ∙ p.specials;
@@ -102,7 +102,7 @@ module _ {x a b c d : List ℕ} (p : Parted x a b c d) where
   pub firsts_put : (y : List ℕ) → length y ≡ length (first_part x) → Parted (put_mid 770 64 x y) a b c y
   firsts_put y e = record {
     all = ap (λ (z : List ℕ). put_mid 770 64 z y) (behind_three ∙ ap ((a ++ b ++ c) ++◌) (sym (append-nil d)))
-        ∙ put_mid 770 64 (a ++ b ++ c) d [] three p.firsts y ∙ ap ((a ++ b ++ c) ++◌) (append-nil y)
+        ∙ put_mid_lem 770 64 (a ++ b ++ c) d [] three p.firsts y ∙ ap ((a ++ b ++ c) ++◌) (append-nil y)
         ∙ append_assoc (a ++ b) c y ∙ append_assoc a b (c ++ y);
     closed = p.closed;
     letters = p.letters;

@@ -1,4 +1,6 @@
 // The rewriter of stored rules: each run of stars becomes one star.
+#![tactic(auto)]
+
 mod runs;
 
 ghost use Rattle.std.specs.Prelude.{◌≡◌};

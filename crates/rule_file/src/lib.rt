@@ -1,4 +1,6 @@
 // Rule files with names: the reader that finds what a file is and writes the records of each line's rule.
+#![tactic(auto)]
+
 mod turn;
 
 ghost use Rattle.std.specs.Prelude.{◌≡◌};

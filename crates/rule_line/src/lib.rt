@@ -1,4 +1,6 @@
 // One line of a rule file: its form, its name, and its rule with names, below lines that have passed.
+#![tactic(auto)]
+
 mod graft;
 pub mod line;
 pub mod names;

@@ -7,6 +7,7 @@ use lib.ListN.{length}
 use Rattle.owners.proofs.FirstLoops.{special_first, plain_first, before_small, placing_begins, placing_on, placing_past}
 use Rattle.owners.proofs.FirstLoops.{placing_same, placing_ends}
 use Rattle.owners.proofs.blocks.first_numbers.Goals as goal
+use Rattle.owners.proofs.blocks.first_numbers.Goals.{then-is_special, else-is_special}
 
 pub block_length-stride-requires : goal.block_length-stride-requires
 block_length-stride-requires c =
@@ -61,11 +62,14 @@ loop-i-preserved c =
     let a = c.args in
     let h = c.loop-i-test.true in
     let e = sym c.is_special.ensures in
-    ⊎_elim (λ p. placing_same
-    (placing_on c.loop-i.invariant c.requires.0 h
-    (special_first a.nodes a.m a.n a.special c.loop-i.i _ _ (e ∙ p.0.taken) p.1.ensures.0 b.ensures.0)) p.2)
-    (λ p. placing_same (placing_past c.loop-i.invariant h (plain_first a.nodes a.m a.n a.special c.loop-i.i (e ∙ p.0.left))) p.1)
-    c.if-is_special.branch
+    elim c.if-is_special.branch [
+      then-is_special w ↦ placing_same
+          (placing_on c.loop-i.invariant c.requires.0 h
+          (special_first a.nodes a.m a.n a.special c.loop-i.i _ _ (e ∙ w.if-is_special.true) w.specials_before.ensures.0 b.ensures.0))
+          w.firsts-is
+    | else-is_special w ↦ placing_same
+          (placing_past c.loop-i.invariant h (plain_first a.nodes a.m a.n a.special c.loop-i.i (e ∙ w.if-is_special.false)))
+          w.firsts-is ]
 
 pub shape_of-firsts : goal.shape_of-firsts
 shape_of-firsts c =

@@ -6,6 +6,7 @@ use mathlib.Core.Logic.{⊎_elim}
 use Rattle.owners.proofs.Settings.{relent}
 use Rattle.owners.proofs.Turning.{plain_turn, turning_begins, turning_on, turning_same, turning_spent, turning_ends}
 use Rattle.owners.proofs.turns.fill_specials.Goals as goal
+use Rattle.owners.proofs.turns.fill_specials.Goals.{then-is_special+else-t, else-is_special}
 
 pub loop-i-init : goal.loop-i-init
 loop-i-init c =
@@ -46,11 +47,11 @@ loop-i-preserved c =
     let g = c.loop-i.invariant in
     let h = c.loop-i-test.true in
     let z = subst (c.loop-i.i <◌) (sym c.requires.recorded.long) h in
-    ⊎_elim (λ p. turning_same (turning_on g z p.2.kept.1.1.1.1.1.0 p.5.left p.2.ensures) p.6 p.7)
-    (λ p.
-    let e = sym c.is_special.ensures ∙ p.0.left in
-    turning_same (turning_on g z refl refl (plain_turn c.requires _ c.loop-i.i h g.done e g.bounded)) p.1 p.2)
-    c.if-is_special.branch
+    elim c.if-is_special.branch [
+      then-is_special+else-t w ↦ turning_same (turning_on g z w.own-t.auto.table w.if-t.false w.own-t.ensures) w.table-is w.c-is
+    | else-is_special w ↦
+          let e = sym c.is_special.ensures ∙ w.if-is_special.false in
+          turning_same (turning_on g z refl refl (plain_turn c.requires _ c.loop-i.i h g.done e g.bounded)) w.table-is w.c-is ]
 
 pub shape_of-table : goal.shape_of-table
 shape_of-table c =

@@ -1,0 +1,32 @@
+-- `find_foreign` is `foreign_at`. Assumes nothing.
+use Prim.Native.Nat.{◌-◌}
+use native.Mathlib.Omega.{arith}
+use mathlib.Core.Path.{sym, ◌∙◌}
+use borrow.Author.Rules.{rules}
+use Rattle.event.specs.Event.{is_event}
+use Rattle.event.proofs.LeadingLaws.{leading_on, leading_here, leading_end}
+use Rattle.matcher.specs.MatchComputed.{foreign_at}
+use Rattle.matcher.proofs.word.find_foreign.Goals as goal
+
+-- the loop's invariant and measure
+
+pub loop-i-init : goal.loop-i-init
+loop-i-init c =
+    (search rules, omega arith)
+
+pub loop-i-preserved : goal.loop-i-preserved
+loop-i-preserved c =
+    let e = leading_on is_event c.args.word.now c.loop-i.i c.loop-i-test.true
+    (sym c.is_event.ensures ∙ c.if-is_event.true) in
+    (omega arith, omega arith)
+
+pub returns-else-is_event : goal.returns-else-is_event
+returns-else-is_event c =
+    let e = leading_here is_event c.args.word.now c.loop-i.i c.loop-i-test.true
+    (sym c.is_event.ensures ∙ c.if-is_event.false) in
+    omega arith
+
+pub returns : goal.returns
+returns c =
+    let e = leading_end is_event c.args.word.now c.loop-i.i (omega arith) in
+    omega arith

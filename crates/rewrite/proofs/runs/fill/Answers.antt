@@ -1,0 +1,32 @@
+-- `fill` writes the bytes that stay. Assumes nothing.
+use Prim.Native.Nat.{◌-◌}
+use native.Mathlib.Omega.{arith}
+use mathlib.Core.Path.{sym, ◌∙◌}
+use mathlib.Core.Logic.{inl, inr, ⊎_elim}
+use borrow.Author.Tests.{not-true}
+use Rattle.rewrite.proofs.Turns.{writing_begins, writing_on, writing_fits, writing_ends}
+use Rattle.rewrite.proofs.runs.fill.Goals as goal
+
+pub loop-i-init : goal.loop-i-init
+loop-i-init c =
+    writing_begins _ _ c.requires
+
+pub bounds-out-n : goal.bounds-out-n
+bounds-out-n c =
+    writing_fits c.loop-i.invariant c.loop-i-test.true (sym c.is_double.ensures ∙ not-true _ c.if-not-is_double.taken)
+
+pub overflow_add-n : goal.overflow_add-n
+overflow_add-n c =
+    let f = writing_fits c.loop-i.invariant c.loop-i-test.true (sym c.is_double.ensures ∙ not-true _ c.if-not-is_double.taken) in
+    omega arith
+
+pub loop-i-preserved : goal.loop-i-preserved
+loop-i-preserved c = ?
+
+pub shape_of-out : goal.shape_of-out
+shape_of-out c =
+    c.loop-i.invariant.long
+
+pub returns : goal.returns
+returns c =
+    writing_ends c.loop-i.invariant c.loop-i-test.false c.requires
