@@ -196,6 +196,8 @@ class Function:
                         return None, ["type_inv", var] + rest[1:]
             if rest and rest[0] == "ensures":
                 rest = ["ensures"] + self.clause(place, rest[1:])
+            if rest and rest[0] == "last" and rest[1:2] and rest[1].isdigit():
+                rest = ["new"] + rest[1:]
             if rest and rest[0] in ("new", "auto") and len(rest) > 1 and rest[1].isdigit():
                 names = self.r["params"].get(self.place[place][3] or "", None)
                 if names:
@@ -203,7 +205,7 @@ class Function:
                     while k < len(rest) and rest[k] == "1" and k < len(names):
                         k += 1
                     rest = [rest[0], names[k - 1]] + rest[k + 1 if k < len(rest) and rest[k] == "0" else k :]
-            if new.startswith("in_default") and rest and rest[0] == "rest":
+            if new.startswith("in_default") and rest and re.match(r"rest$|keys\d+$", rest[0]):
                 rest = [new + "-own"] + rest
             return None, [new] + rest
         if place == "Start" or self.place[place][1] is None:

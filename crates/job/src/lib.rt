@@ -1,4 +1,6 @@
 // Jobs: a rule and a day, judged, and the text that lists the spans that obey.
+#![tactic(auto)]
+
 mod first_line;
 
 ghost use Rattle.std.specs.Prelude.{◌≡◌, ℕ, ◌≤◌, List, length, replicate};

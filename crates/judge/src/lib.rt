@@ -1,4 +1,6 @@
 // The judge: which spans of a word obey a rule, in a lent table, within a lent limit of work.
+#![tactic(auto)]
+
 pub mod file;
 
 ghost use Rattle.std.specs.Prelude.{◌≡◌, List, ℕ, ◌+◌, ◌*◌, ◌≤◌, length};

@@ -1,5 +1,7 @@
 // The C interface, include/wuzlevor.h: each call leaves in its buffers what the library's call leaves, writes the answer as numbers, and
 // returns its number.
+#![tactic(auto)]
+
 mod row;
 
 ghost use Rattle.std.specs.Prelude.{◌≡◌};
