@@ -11,8 +11,8 @@ ghost use Rattle.moves.specs.Moves.{special_kind, SidesBefore, ClosedMoves, Lett
 
 use closure::close;
 use entries::{add_letter, add_special};
-use free::add_moves;
 use expression::{Kind, Node};
+use free::add_moves;
 
 // Whether a walk passes a node of this kind by the span table alone.
 pub fn is_special(kind: Kind) -> bool

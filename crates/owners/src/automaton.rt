@@ -6,8 +6,8 @@ ghost use Rattle.owners.specs.Blocks.{FirstNumbers};
 ghost use Rattle.owners.specs.Building.{Built};
 
 use crate::blocks::first_numbers;
-use levels::{FIRSTS, LETTERS, NUMBERS, SPECIALS};
 use expression::Node;
+use levels::{FIRSTS, LETTERS, NUMBERS, SPECIALS};
 
 // Fills a cleared run with the automaton of a rule with m nodes whose first sides are in lefts, for a word of n events, where the blocks of
 // its special nodes begin at number `special` of the table.

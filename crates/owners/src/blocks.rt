@@ -4,8 +4,8 @@ ghost use Rattle.bits.specs.Runs.{indicator};
 ghost use Rattle.moves.specs.Moves.{special_kind};
 ghost use Rattle.owners.specs.Blocks.{specials_before, FirstNumbers};
 
-use moves::is_special;
 use expression::{Kind, Node};
+use moves::is_special;
 
 // 1 for a special node with an offset below `bound`, 0 for any other.
 fn one_before(kind: Kind, offset: usize, bound: usize) -> usize

@@ -12,9 +12,9 @@ ghost use Rattle.owners.specs.Filling.{tree_from, Fillable, FilledTable};
 use crate::automaton::build;
 use crate::sides::left_sides;
 use crate::turns::fill_all;
+use expression::Node;
 use levels::NUMBERS;
 use marks::Tally;
-use expression::Node;
 
 // Fills the blocks of the rule that the first m records are those of: the whole rule's from number `whole` of the table on, and those of its
 // special nodes, one after another, from number `special` on. Clears the table if that takes more than the limit.

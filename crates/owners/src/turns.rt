@@ -6,10 +6,10 @@ ghost use Rattle.owners.specs.Filling.{tree_from};
 ghost use Rattle.owners.specs.Blocks.{BlocksBelow, WholeApart};
 ghost use Rattle.owners.specs.Turns.{is_complement, Setting, Turned, SpecialsTurned, AllTurned};
 
+use expression::{Kind, Node};
 use levels::FIRSTS;
 use marks::{Tally, Target};
 use moves::is_special;
-use expression::{Kind, Node};
 
 // Whether a special node's block has the spans at which its walks do not end.
 fn is_complement(kind: Kind) -> bool

@@ -1,5 +1,4 @@
 -- `read` meets its contract. Assumes nothing.
-use borrow.Author.Tests.{ltb-true, ltb-false}
 use mathlib.Core.Logic.{inl, inr, ⊎_elim}
 use Rattle.day.proofs.Results.{too_long, bad_line, short, all_formed, filled}
 use Rattle.day.proofs.read.Goals as goal
@@ -16,12 +15,11 @@ returns-then-letters-n c =
     record { value = both.0; meaning = both.1 }
 
 pub fill-requires : goal.fill-requires
-fill-requires c =
-    (
-      c.if-letters-n.false,
-      c.if-seconds-n.false,
-      all_formed c.args.file.now _ _ c.check_lines.ensures c.in-Good.is,
-    )
+fill-requires c = (
+  c.if-letters-n.false,
+  c.if-seconds-n.false,
+  all_formed c.args.file.now _ _ c.check_lines.ensures c.in-Good.is,
+)
 
 pub returns-in-Bad : goal.returns-in-Bad
 returns-in-Bad c =

@@ -17,12 +17,20 @@ saturate-requires c =
     let l = p.automaton_len.0 in
     let a = c.args.automaton.now in
     let n = p.exits_len in
-    record { closed_len = (
+    record {
+      closed_len = (
         length-take-le 256 a (omega arith),
         length-take-le 2 (drop 768 a) (simp length-drop (omega arith)),
         length-take-le 64 (drop 770 a) (simp length-drop (omega arith)),
         p.automaton_len.1,
-      ); exits_len = (n.0, n.1, n.2, p.automaton_len.2); reflexive = c.requires.reflexive; transitive = c.requires.transitive; entries = c.requires.entries; room = c.requires.room; begun = c.requires.begun }
+      );
+      exits_len = (n.0, n.1, n.2, p.automaton_len.2);
+      reflexive = c.requires.reflexive;
+      transitive = c.requires.transitive;
+      entries = c.requires.entries;
+      room = c.requires.room;
+      begun = c.requires.begun;
+    }
 
 pub returns : goal.returns
 returns c =

@@ -16,8 +16,16 @@ slice_bounds-build-end c =
 pub build-requires : goal.build-requires
 build-requires c =
     let l = c.left_sides-lefts in
-    record { m_bound = (c.requires.recorded.few, c.requires.short, let f = c.requires.parts_fit in
-    omega arith, refl); sides_before = lefts_low l.result c.requires.recorded l.ensures }
+    record {
+      m_bound = (
+        c.requires.recorded.few,
+        c.requires.short,
+        let f = c.requires.parts_fit in
+            omega arith,
+        refl,
+      );
+      sides_before = lefts_low l.result c.requires.recorded l.ensures;
+    }
 
 pub slice_bounds-fill_all-end : goal.slice_bounds-fill_all-end
 slice_bounds-fill_all-end c =

@@ -47,8 +47,7 @@ returns-then-t c =
 
 pub loop-i-preserved : goal.loop-i-preserved
 loop-i-preserved c =
-    let s = c.fill_start-t in
-    (
+    let s = c.fill_start-t in (
       λ a r p z. filling_turn (c.loop-i.invariant.0 a r p z) c.loop-i-test.true s.ensures.started c.if-t.false,
       s.ensures.cache,
       s.auto.exits ∙ c.loop-i.invariant.2,

@@ -24,8 +24,7 @@ returns-then-i-word c =
 pub returns : goal.returns
 returns c =
     let n = c.next_states-next.ensures in
-    let e = c.is_empty.ensures in
-    (
+    let e = c.is_empty.ensures in (
       λ r. (
         c.if-complement.false,
         record {

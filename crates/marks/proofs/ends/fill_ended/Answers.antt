@@ -15,8 +15,8 @@ returns-then-limit-count c =
       marked = c.store.ensures;
       counted = λ f. absurd (true≢false f);
       over = λ _. let i = c.if-limit-count.true in
-    let p = c.requires.initial_len.2 in
-    omega arith;
+          let p = c.requires.initial_len.2 in
+          omega arith;
       spends = λ _. refl;
       bounded = omega arith;
       row = λ f. absurd (true≢false f);
@@ -28,8 +28,12 @@ add_row-requires c =
     let a = c.args in
     let p = c.requires in
     let q = p.initial_len in
-    record { lies = p.lies; i_le_n = (q.1, search rules); by_index = row_spans _ a.target a.i a.n _ (search rules)
-            (λ k l. c.row_at_start-row.ensures k l ∙ one_row c.store.ensures a.target a.n k p.complement_value q.3 q.1) }
+    record {
+      lies = p.lies;
+      i_le_n = (q.1, search rules);
+      by_index = row_spans _ a.target a.i a.n _ (search rules)
+          (λ k l. c.row_at_start-row.ensures k l ∙ one_row c.store.ensures a.target a.n k p.complement_value q.3 q.1);
+    }
 
 pub returns : goal.returns
 returns c =

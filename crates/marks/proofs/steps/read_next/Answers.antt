@@ -15,8 +15,11 @@ returns-then-j-word c =
 
 pub next_states-next-requires : goal.next_states-next-requires
 next_states-next-requires c =
-    record { automaton_len = let p = c.requires in
-    (p.automaton_len.0, p.automaton_len.2); by_index = c.requires.by_index }
+    record {
+      automaton_len = let p = c.requires in
+          (p.automaton_len.0, p.automaton_len.2);
+      by_index = c.requires.by_index;
+    }
 
 pub returns : goal.returns
 returns c =

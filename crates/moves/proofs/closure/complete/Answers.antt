@@ -1,7 +1,6 @@
 -- `complete` follows the states of a row, one after another. Assumes nothing.
 use mathlib.Core.Path.{refl, ◌∙◌}
 use mathlib.Core.Logic.{inl}
-use Prim.Native.Nat.{◌-◌}
 use native.Mathlib.Omega.{arith}
 use Rattle.moves.proofs.ClosingLaws.{completing_start, completing_turn, completing_done, next_less}
 use Rattle.moves.proofs.closure.complete.Goals as goal
@@ -45,11 +44,10 @@ loop-followed-smaller c =
     next_less c.next_state-k.ensures c.if-k-eq128.false c.mark_followed.ensures (inl refl)
 
 pub loop-followed-preserved : goal.loop-followed-preserved
-loop-followed-preserved c =
-    (
-      c.merge_row.ensures.long ∙ c.loop-followed.invariant.0,
-      c.mark_followed.ensures.long ∙ c.loop-followed.invariant.1,
-      λ m f.
-          completing_turn c.requires.1 (c.loop-followed.invariant.2 m f) c.next_state-k.ensures c.if-k-eq128.false c.merge_row.ensures
-          c.mark_followed.ensures,
-    )
+loop-followed-preserved c = (
+  c.merge_row.ensures.long ∙ c.loop-followed.invariant.0,
+  c.mark_followed.ensures.long ∙ c.loop-followed.invariant.1,
+  λ m f.
+      completing_turn c.requires.1 (c.loop-followed.invariant.2 m f) c.next_state-k.ensures c.if-k-eq128.false c.merge_row.ensures
+      c.mark_followed.ensures,
+)

@@ -1,6 +1,4 @@
 -- `add_set` adds one bit for each letter of the set, by rising index. Assumes nothing.
-use mathlib.Core.Bool.{true}
-use Prim.Native.Nat.{◌-◌}
 use native.Mathlib.Omega.{arith}
 use Rattle.moves.proofs.LetterLaws.{below_none, below_turn, below_all}
 use Rattle.moves.proofs.entries.add_set.Goals as goal
@@ -52,8 +50,7 @@ loop-index-smaller c =
 
 pub loop-index-preserved : goal.loop-index-preserved
 loop-index-preserved c =
-    let n = c.next_index-index-in-loop-index.ensures in
-    (
+    let n = c.next_index-index-in-loop-index.ensures in (
       λ h. n.there (omega arith),
       below_turn _ _ c.loop-index.index _ (omega arith) c.loop-index-test.true (c.loop-index.invariant.0 c.loop-index-test.true) n
           c.loop-index.invariant.1 (rw (← c.letter_at-letter.ensures) c.put.ensures.bits),

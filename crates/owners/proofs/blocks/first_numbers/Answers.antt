@@ -63,13 +63,14 @@ loop-i-preserved c =
     let h = c.loop-i-test.true in
     let e = sym c.is_special.ensures in
     elim c.if-is_special.branch [
-      then-is_special w ↦ placing_same
+      | then-is_special w ↦ placing_same
           (placing_on c.loop-i.invariant c.requires.0 h
           (special_first a.nodes a.m a.n a.special c.loop-i.i _ _ (e ∙ w.if-is_special.true) w.specials_before.ensures.0 b.ensures.0))
           w.firsts-is
-    | else-is_special w ↦ placing_same
+      | else-is_special w ↦ placing_same
           (placing_past c.loop-i.invariant h (plain_first a.nodes a.m a.n a.special c.loop-i.i (e ∙ w.if-is_special.false)))
-          w.firsts-is ]
+          w.firsts-is
+    ]
 
 pub shape_of-firsts : goal.shape_of-firsts
 shape_of-firsts c =

@@ -21,11 +21,10 @@ slice_bounds-extent_of-end c =
     omega arith
 
 pub extent_of-e-requires : goal.extent_of-e-requires
-extent_of-e-requires c =
-    (
-      c.loop-i.invariant.long.0,
-      siding_known c.requires c.loop-i.invariant c.loop-i-test.true c.sides_of.ensures,
-    )
+extent_of-e-requires c = (
+  c.loop-i.invariant.long.0,
+  siding_known c.requires c.loop-i.invariant c.loop-i-test.true c.sides_of.ensures,
+)
 
 pub offset_bounds-begins-i : goal.offset_bounds-begins-i
 offset_bounds-begins-i c =

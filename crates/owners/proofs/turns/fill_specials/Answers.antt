@@ -48,10 +48,11 @@ loop-i-preserved c =
     let h = c.loop-i-test.true in
     let z = subst (c.loop-i.i <◌) (sym c.requires.recorded.long) h in
     elim c.if-is_special.branch [
-      then-is_special+else-t w ↦ turning_same (turning_on g z w.own-t.auto.table w.if-t.false w.own-t.ensures) w.table-is w.c-is
-    | else-is_special w ↦
+      | then-is_special+else-t w ↦ turning_same (turning_on g z w.own-t.auto.table w.if-t.false w.own-t.ensures) w.table-is w.c-is
+      | else-is_special w ↦
           let e = sym c.is_special.ensures ∙ w.if-is_special.false in
-          turning_same (turning_on g z refl refl (plain_turn c.requires _ c.loop-i.i h g.done e g.bounded)) w.table-is w.c-is ]
+          turning_same (turning_on g z refl refl (plain_turn c.requires _ c.loop-i.i h g.done e g.bounded)) w.table-is w.c-is
+    ]
 
 pub shape_of-table : goal.shape_of-table
 shape_of-table c =

@@ -1,10 +1,8 @@
 -- `fill` writes the bytes that stay. Assumes nothing.
-use Prim.Native.Nat.{◌-◌}
 use native.Mathlib.Omega.{arith}
 use mathlib.Core.Path.{sym, ap, ◌∙◌}
 use mathlib.Core.Bool.{not}
-use mathlib.Core.Logic.{inl, inr, ⊎_elim}
-use borrow.Author.Tests.{not-true}
+use mathlib.Core.Logic.{inl, inr}
 use Rattle.rewrite.proofs.Turns.{writing_begins, writing_on, writing_fits, writing_ends}
 use Rattle.rewrite.proofs.runs.fill.Goals as goal
 use Rattle.rewrite.proofs.runs.fill.Goals.{then-not-is_double, else-not-is_double}
@@ -26,8 +24,9 @@ pub loop-i-preserved : goal.loop-i-preserved
 loop-i-preserved c =
     writing_on c.loop-i.invariant c.loop-i-test.true c.is_double.ensures
     (elim c.if-not-is_double.branch [
-      then-not-is_double w ↦ inl (ap not w.if-not-is_double.true, w.out-is, w.n-is)
-    | else-not-is_double w ↦ inr (ap not w.if-not-is_double.false, w.out-is, w.n-is) ])
+      | then-not-is_double w ↦ inl (ap not w.if-not-is_double.true, w.out-is, w.n-is)
+      | else-not-is_double w ↦ inr (ap not w.if-not-is_double.false, w.out-is, w.n-is)
+    ])
 
 pub shape_of-out : goal.shape_of-out
 shape_of-out c =

@@ -1,10 +1,10 @@
 -- `gather` is the set of a text's letters. Assumes nothing.
-use Prim.Native.Nat.{◌+◌, ◌-◌}
+use Prim.Native.Nat.{◌+◌}
 use native.Mathlib.Omega.{arith}
 use mathlib.Core.Path.{sym, ap, ◌∙◌}
 use lib.ListN.{drop}
 use borrow.Author.Rules.{rules}
-use Rattle.event.specs.LetterSets.{none, gathered}
+use Rattle.event.specs.LetterSets.{gathered}
 use Rattle.event.specs.declared.sets.LetterSet.{LetterSet}
 use Rattle.event.proofs.SetLaws.{gathered_on, gathered_end}
 use Rattle.rule.proofs.leaf.gather.Goals as goal
@@ -21,8 +21,7 @@ loop-i-smaller c =
 
 pub loop-i-preserved : goal.loop-i-preserved
 loop-i-preserved c =
-    let s = c.args.s.now in
-    (
+    let s = c.args.s.now in (
       omega (arith, c.loop-i-test.true),
       c.loop-i.invariant.1 ∙ gathered_on s c.loop-i.i c.loop-i.set c.loop-i-test.true
           ∙ ap (λ (q : LetterSet). gathered q (drop (c.loop-i.i + 1) s)) (sym c.plus-set.ensures),

@@ -1,5 +1,5 @@
 -- `graft` writes the records of the grafted tree. Assumes nothing.
-use Prim.Native.Nat.{ℕ, ◌-◌}
+use Prim.Native.Nat.{ℕ}
 use native.Mathlib.Omega.{arith}
 use mathlib.Core.Path.{◌≡◌, ap, ◌∙◌}
 use lib.ListN.{get_or, take}
@@ -54,11 +54,10 @@ put_node-g-requires c =
     node_room c.args.origins.now c.args.places.now c.args.lines c.args.source c.args.m c.requires.graftable c.requires.m_bound.0 c.requires.m_bound.1 c.loop-j.j c.loop-j-test.true _ c.line_index-i.ensures _ c.loop-j.invariant.1
 
 pub loop-j-preserved : goal.loop-j-preserved
-loop-j-preserved c =
-    (
-      omega (arith, c.loop-j-test.true),
-      node_on c.args.origins.now c.args.places.now c.args.lines c.args.source c.args.m c.requires.graftable c.requires.m_bound.0 c.requires.m_bound.1 c.loop-j.j c.loop-j-test.true _ c.line_index-i.ensures _ _ c.loop-j.invariant.1 c.put_node-g.ensures,
-    )
+loop-j-preserved c = (
+  omega (arith, c.loop-j-test.true),
+  node_on c.args.origins.now c.args.places.now c.args.lines c.args.source c.args.m c.requires.graftable c.requires.m_bound.0 c.requires.m_bound.1 c.loop-j.j c.loop-j-test.true _ c.line_index-i.ensures _ _ c.loop-j.invariant.1 c.put_node-g.ensures,
+)
 
 pub returns : goal.returns
 returns c =

@@ -1,9 +1,6 @@
 -- `same_text` is `same_text`. Assumes nothing.
-use Prim.Native.Nat.{◌-◌}
 use native.Mathlib.Omega.{arith}
 use mathlib.Core.Path.{refl, sym, ◌∙◌}
-use lib.ListN.{length}
-use Rattle.rule_line.specs.LineComputed.{same_text}
 use Rattle.rule_line.proofs.LineNames.{same_length, same_on, same_stops, same_ends}
 use Rattle.rule_line.proofs.names.same_text.Goals as goal
 
@@ -24,8 +21,7 @@ returns-then-a-i c =
 
 pub loop-i-preserved : goal.loop-i-preserved
 loop-i-preserved c =
-    let a = c.args in
-    (
+    let a = c.args in (
       omega arith,
       c.loop-i.invariant.1,
       c.loop-i.invariant.2 ∙ same_on a.a.now a.b.now c.loop-i.i (omega arith) c.loop-i.invariant.1 c.if-a-i.false,

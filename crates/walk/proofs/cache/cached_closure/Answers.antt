@@ -8,8 +8,11 @@ use Rattle.walk.proofs.cache.cached_closure.Goals as goal
 pub returns-then-cache-at-2 : goal.returns-then-cache-at-2
 returns-then-cache-at-2 c =
     let p = c.requires in
-    record { states = found_led c.args.j p.automaton_len.2 p.remembered
-          (slot_law _ _ _ _ c.if-cache-at.true c.if-cache-at-2.true refl refl); cache = p.remembered }
+    record {
+      states = found_led c.args.j p.automaton_len.2 p.remembered
+          (slot_law _ _ _ _ c.if-cache-at.true c.if-cache-at-2.true refl refl);
+      cache = p.remembered;
+    }
 
 pub bounds-cache-at-3 : goal.bounds-cache-at-3
 bounds-cache-at-3 c =

@@ -66,6 +66,10 @@ returns c =
     let l = p.automaton_len in
     let f = p.full_2 in
     let t = automaton_of a.automaton.now a.word.now a.table.now in
-    record { states = level_law t r a.j l.4 _ _ _ _ p.among l.3 f
-          c.due_exits-begun.ensures c.add_marked.ensures c.cached_closure-closure.ensures.states c.saturate.ensures; full = level_full t r a.j l.4 _ _ _ _ p.among l.3 f
-            c.due_exits-begun.ensures c.add_marked.ensures c.cached_closure-closure.ensures.states c.saturate.ensures; cache = c.cached_closure-closure.ensures.cache }
+    record {
+      states = level_law t r a.j l.4 _ _ _ _ p.among l.3 f
+          c.due_exits-begun.ensures c.add_marked.ensures c.cached_closure-closure.ensures.states c.saturate.ensures;
+      full = level_full t r a.j l.4 _ _ _ _ p.among l.3 f
+          c.due_exits-begun.ensures c.add_marked.ensures c.cached_closure-closure.ensures.states c.saturate.ensures;
+      cache = c.cached_closure-closure.ensures.cache;
+    }

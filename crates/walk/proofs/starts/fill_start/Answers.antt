@@ -16,8 +16,11 @@ fill_ended-requires c =
 pub returns-then-ends_there : goal.returns-then-ends_there
 returns-then-ends_there c =
     let p = c.requires in
-    record { started = ended_started c.args.target p.ready p.automaton_len.2 p.left_nonzero p.initial_len.1
-          (c.ends_there.ensures.0 c.if-ends_there.true).1 c.fill_ended.ensures; cache = p.remembered }
+    record {
+      started = ended_started c.args.target p.ready p.automaton_len.2 p.left_nonzero p.initial_len.1
+          (c.ends_there.ensures.0 c.if-ends_there.true).1 c.fill_ended.ensures;
+      cache = p.remembered;
+    }
 
 pub fill_walked-requires : goal.fill_walked-requires
 fill_walked-requires c =

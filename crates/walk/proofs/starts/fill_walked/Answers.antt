@@ -54,5 +54,8 @@ pub returns : goal.returns
 returns c =
     let a = c.args in
     let b = c.mark_start.ensures in
-    record { started = started a.target a.i b c.walk-t.ensures.walked c.if-t.false (λ _. (_, c.row_of-row.ensures, c.add_row.ensures))
-          (λ f. absurd (false≢true f)); cache = c.walk-t.ensures.cache }
+    record {
+      started = started a.target a.i b c.walk-t.ensures.walked c.if-t.false (λ _. (_, c.row_of-row.ensures, c.add_row.ensures))
+          (λ f. absurd (false≢true f));
+      cache = c.walk-t.ensures.cache;
+    }

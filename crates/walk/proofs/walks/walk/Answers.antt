@@ -93,8 +93,7 @@ loop-j-smaller c =
 pub loop-j-preserved : goal.loop-j-preserved
 loop-j-preserved c =
     let g = c.loop-j.invariant.0 in
-    let e = c.level-set.ensures in
-    (
+    let e = c.level-set.ensures in (
       before_turn _ g c.loop-j-test.true e.states (c.advance-t.ensures.on c.if-t.false)
           (c.level-set.auto.exits ∙ g.lengths.1, c.level-set.auto.opened ∙ g.lengths.2),
       e.full,
