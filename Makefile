@@ -5,7 +5,7 @@ SHELL := /bin/bash
 
 help:
 	@echo "make run       proves what is not proved yet, then runs the program on the worked day of README.md and shows the list"
-	@echo "make test      the gate: formatting, proofs, must-fail edits, examples, and every comparison with the second program"
+	@echo "make test      the gate: layout, proofs, must-fail edits, examples, and every comparison with the second program"
 	@echo "make prove     the proofs alone, from what has changed"
 	@echo "make times     the check's time: proves all from nothing, the seconds of each crate as a table; BEFORE=commit proves that first"
 	@echo "make library   the static library for C; says where it is and how to link it"
@@ -16,31 +16,32 @@ help:
 
 EXAMPLE ?= examples/held_open.job
 run:
-	@echo "proving what is not proved yet: 5 to 8 minutes the first time, a line for each of 22 crates"
-	@rt check checker | grep --line-buffered -E '^rt:|error'
+	@echo "proving what is not proved yet: some minutes the first time, a line for each crate"
+	@scripts/build checker
 	@echo "the job, $(EXAMPLE):"
 	@cat $(EXAMPLE)
 	@echo "the list:"
-	@target/bin/checker <$(EXAMPLE)
+	@crates/checker/out/checker <$(EXAMPLE)
 
 test:
 	@scripts/test
 
 prove:
-	rt check
+	rt all check
 
 times:
 	@scripts/check_times $(BEFORE)
 
+ARCHIVE := $(CURDIR)/crates/wuzlevor/out/libwuzlevor.a
 library:
-	@rt staticlib wuzlevor | grep --line-buffered -E '^rt:|error'
-	@echo "archive: $(CURDIR)/target/staticlib/libwuzlevor.a"
+	@scripts/build wuzlevor
+	@echo "archive: $(ARCHIVE)"
 	@echo "header:  $(CURDIR)/include/wuzlevor.h"
-	@echo "link:    cc -I $(CURDIR)/include YOURS.c $(CURDIR)/target/staticlib/libwuzlevor.a"
+	@echo "link:    cc -I $(CURDIR)/include YOURS.c $(ARCHIVE)"
 
 PREFIX ?= /usr/local
 install: library
-	@rt check checker | grep --line-buffered -E '^rt:|error'
+	@scripts/build checker
 	@scripts/install "$(PREFIX)"
 
 second:
@@ -49,10 +50,9 @@ second:
 SEED ?= 2
 N ?= 200000
 compare:
+	scripts/build wuzlevor checker case_runner
 	scripts/compare_definitions $(SEED) 400 400 400
-	rt check case_runner checker
 	scripts/compare_answers $(SEED) 100
-	rt staticlib wuzlevor
 	scripts/compare_proved $(SEED) $(N) $$(($(N) / 10))
 
 bench:

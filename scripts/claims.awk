@@ -4,13 +4,13 @@ BEGIN {
     FS = "\t"
     kind["0"] = "Empty"; kind["1"] = "Epsilon"; kind["|"] = "Union"; kind["&"] = "Intersection"
     kind["."] = "Concatenation"; kind["!"] = "Complement"; kind["*"] = "Star"
-    source["1"] = "of-first"; source["2"] = "of-second"
-    unfolded = "treeOf parse leafAt leading gathered bitOf records scanFrom unorderedFrom doubleFrom isEvent holds hasBit obeying accepts fullCount found block obeys packedRun packed onesOf ones"
+    source["1"] = "of_first"; source["2"] = "of_second"
+    unfolded = "tree_of parse leaf_at leading gathered bit_of records scan_from unordered_from double_from is_event holds has_bit obeying accepts full_count found block obeys packed_run packed ones_of ones"
     if (KIND == "merges") unfolded = "merged"
 }
 
 function claim(text) {
-    name = "claim-" KIND "-" ++claims
+    name = "claim_" KIND "_" ++claims
     print "\n" name " : " text "\nunfolding " unfolded
     print name " = refl"
 }
@@ -31,7 +31,7 @@ function spans_list(field,    n, i, items) {
 function node_of(item,    at, sign) {
     at = index(item, ":")
     sign = substr(item, at + 1)
-    return "node " substr(item, 1, at - 1) " " (sign in kind ? kind[sign] : "(Letter (lettersOf (bytes \"" sign "\")))")
+    return "node " substr(item, 1, at - 1) " " (sign in kind ? kind[sign] : "(Letter (letters_of (bytes \"" sign "\")))")
 }
 
 # an event, `second:letter`
@@ -64,10 +64,10 @@ function special_offsets(items, n,    i, j, m, offsets, x) {
 }
 
 KIND == "cases" {
-    tree = "(treeOf (bytes \"" $1 "\"))"; word = "(bytes \"" $2 "\")"
+    tree = "(tree_of (bytes \"" $1 "\"))"; word = "(bytes \"" $2 "\")"
     claim("obeying " word " " tree " ≡ " spans_list($3))
     claim("found " word " " tree " ≡ " listed)
-    claim("fullCount " word " " tree " ≡ " $4)
+    claim("full_count " word " " tree " ≡ " $4)
     claim("size " tree " ≡ " $5)
     claim("specials " tree " ≡ " $6)
 }
@@ -76,17 +76,17 @@ KIND == "merges" { claim("merged " events_list($1) " " events_list($2) " ≡ " m
 
 KIND == "readings" && $2 == 4 { claim("scanned (bytes \"" $1 "\") ≡ Broken " $3) }
 
-KIND == "readings" && $2 == 20 { claim("unorderedAt (bytes \"" $1 "\") ≡ " $3) }
+KIND == "readings" && $2 == 20 { claim("unordered_at (bytes \"" $1 "\") ≡ " $3) }
 
-KIND == "readings" && $2 == 21 { claim("doubleAt (bytes \"" $1 "\") ≡ " $3) }
+KIND == "readings" && $2 == 21 { claim("double_at (bytes \"" $1 "\") ≡ " $3) }
 
 KIND == "readings" && $2 == 0 {
-    tree = "(treeOf (bytes \"" $1 "\"))"
+    tree = "(tree_of (bytes \"" $1 "\"))"
     n = split($6, items, ";")
-    claim("map offset (specialParts " tree ") ≡ " special_offsets(items, n))
+    claim("map offset (special_parts " tree ") ≡ " special_offsets(items, n))
     for (i = 1; i <= n; i++) items[i] = node_of(items[i])
     claim("records " tree " ≡ " join_list(items, n))
     claim("scanned (bytes \"" $1 "\") ≡ Complete " $4 " " $5)
-    claim("unorderedAt (bytes \"" $1 "\") ≡ " length($1))
-    claim("doubleAt (bytes \"" $1 "\") ≡ " length($1))
+    claim("unordered_at (bytes \"" $1 "\") ≡ " length($1))
+    claim("double_at (bytes \"" $1 "\") ≡ " length($1))
 }

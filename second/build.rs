@@ -4,7 +4,7 @@ use std::env;
 use std::path::Path;
 
 /// Where the proved library lies, unless the environment says otherwise; relative to this package.
-const DEFAULT_DIRECTORY: &str = "../target/staticlib";
+const DEFAULT_DIRECTORY: &str = "../crates/wuzlevor/out";
 
 fn main() {
     println!("cargo:rerun-if-changed=build.rs");

@@ -4,6 +4,7 @@ ghost use Rattle.std.specs.Prelude.{◌≤◌, length};
 use crate::judgements::answer_judge;
 use crate::numbers::answer_numbers;
 use crate::show::{answer_day, answer_rule};
+use std::io::Write;
 
 // The largest 64-bit number.
 const MOST: u64 = 18446744073709551615;
@@ -80,7 +81,7 @@ fn long_number_at(s: &[u8], from: usize) -> LongNumber
 }
 
 // Answers a rule's case at the front, `rule LEN`, and gives its length; 0 where it is not whole.
-fn rule_case(s: &[u8]) -> usize {
+fn rule_case<W: Write>(out: &mut W, s: &[u8]) -> usize {
     if s.len() < 5 {
         return 0;
     }
@@ -93,12 +94,12 @@ fn rule_case(s: &[u8]) -> usize {
     if s.len() <= to {
         return 0;
     }
-    answer_rule(&s[from..to]);
+    answer_rule(out, &s[from..to]);
     to + 1
 }
 
 // Answers a day's case at the front, `day LETTERS SECONDS LEN`, and gives its length; 0 where it is not whole.
-fn day_case(s: &[u8]) -> usize {
+fn day_case<W: Write>(out: &mut W, s: &[u8]) -> usize {
     if s.len() < 4 {
         return 0;
     }
@@ -119,12 +120,12 @@ fn day_case(s: &[u8]) -> usize {
     if s.len() <= to {
         return 0;
     }
-    answer_day(&s[from..to], letters.value, seconds.value);
+    answer_day(out, &s[from..to], letters.value, seconds.value);
     to + 1
 }
 
 // Answers a judge's case at the front, `judge TABLE LIMIT RULE WORD`, and gives its length; 0 where it is not whole.
-fn judge_case(s: &[u8]) -> usize {
+fn judge_case<W: Write>(out: &mut W, s: &[u8]) -> usize {
     if s.len() < 6 {
         return 0;
     }
@@ -136,7 +137,7 @@ fn judge_case(s: &[u8]) -> usize {
     if s.len() <= limit.end {
         return 0;
     }
-    let used = judge_texts(&s[limit.end + 1..], table.value, limit.value);
+    let used = judge_texts(out, &s[limit.end + 1..], table.value, limit.value);
     if used == 0 {
         return 0;
     }
@@ -144,7 +145,7 @@ fn judge_case(s: &[u8]) -> usize {
 }
 
 // Answers the rest of a judge's case, `RULE WORD` and the two texts, and gives its length; 0 where it is not whole.
-fn judge_texts(s: &[u8], table: usize, limit: u64) -> usize
+fn judge_texts<W: Write>(out: &mut W, s: &[u8], table: usize, limit: u64) -> usize
     ensures { result ≤ length s.now }
 {
     let rule = number_at(s, 0);
@@ -164,13 +165,13 @@ fn judge_texts(s: &[u8], table: usize, limit: u64) -> usize
         return 0;
     }
     let to = middle + word.value;
-    answer_judge(&s[from..middle], &s[middle..to], table, limit);
+    answer_judge(out, &s[from..middle], &s[middle..to], table, limit);
     to + 1
 }
 
 // Answers a row of numbers at the front, `numbers FIRST COUNT`, and gives its length; 0 where it is not whole, or where a number of it has over
 // 64 bits.
-fn numbers_case(s: &[u8]) -> usize {
+fn numbers_case<W: Write>(out: &mut W, s: &[u8]) -> usize {
     if s.len() < 8 {
         return 0;
     }
@@ -187,34 +188,34 @@ fn numbers_case(s: &[u8]) -> usize {
         return 0;
     }
     if count.value == 0 {
-        answer_numbers(first.value, 0);
+        answer_numbers(out, first.value, 0);
         return count.end + 2;
     }
     if MOST - first.value < (count.value as u64) - 1 {
         return 0;
     }
-    answer_numbers(first.value, count.value);
+    answer_numbers(out, first.value, count.value);
     count.end + 2
 }
 
 // Answers the case at the front and gives its length; 0 where it is not whole.
-fn answer_case(s: &[u8]) -> usize {
+fn answer_case<W: Write>(out: &mut W, s: &[u8]) -> usize {
     if s.len() == 0 {
         return 0;
     }
     match s[0] {
-        b'r' => rule_case(s),
-        b'j' => judge_case(s),
-        b'n' => numbers_case(s),
-        _ => day_case(s),
+        b'r' => rule_case(out, s),
+        b'j' => judge_case(out, s),
+        b'n' => numbers_case(out, s),
+        _ => day_case(out, s),
     }
 }
 
 // Answers the cases one after another, up to one that is not whole.
-pub fn answer_all(s: &[u8]) {
+pub fn answer_all<W: Write>(out: &mut W, s: &[u8]) {
     let mut at = 0;
     while at < s.len() {
-        let used = answer_case(&s[at..]);
+        let used = answer_case(out, &s[at..]);
         if used == 0 {
             return;
         }

@@ -3,6 +3,7 @@ ghost use Rattle.std.specs.Prelude.{◌+◌, ◌≤◌, ◌<◌, length};
 
 use crate::output::{print, print_decimal, print_number};
 use crate::show::print_verdict;
+use std::io::Write;
 
 // How many equal numbers stand side by side from an index on.
 fn run_length(table: &[u64], from: usize) -> usize
@@ -19,31 +20,34 @@ fn run_length(table: &[u64], from: usize) -> usize
 }
 
 // The table's numbers, a run of equal ones as NUMBER*TIMES; a dash where there is none.
-fn print_table(table: &[u64]) {
-    print(b"\t");
+fn print_table<W: Write>(out: &mut W, table: &[u64]) {
+    print(out, b"\t");
     if table.len() == 0 {
-        print(b"-");
+        print(out, b"-");
     }
     let mut i = 0;
     while i < table.len() {
         let times = run_length(table, i);
         if 0 < i {
-            print(b",");
+            print(out, b",");
         }
-        print_decimal(table[i]);
+        print_decimal(out, table[i]);
         if 1 < times {
-            print_number(b'*', times);
+            print_number(out, b'*', times);
         }
         i += times;
     }
 }
 
 // Judges with a table and prints the answer, and the table whole.
-fn answer_in(rule: &[u8], word: &[u8], limit: u64, table: &mut [u64]) {
-    print(b"judge");
-    print_verdict(judge::outcome_verdict(judge::judge(rule, word, limit, table)));
-    print_table(table);
-    print(b"\n");
+fn answer_in<W: Write>(out: &mut W, rule: &[u8], word: &[u8], limit: u64, table: &mut [u64]) {
+    print(out, b"judge");
+    print_verdict(
+        out,
+        judge::outcome_verdict(judge::judge(rule, word, limit, table)),
+    );
+    print_table(out, table);
+    print(out, b"\n");
 }
 
 // What a number of the table is before the call: nearly all of its bits are ones.
@@ -58,11 +62,11 @@ fn make_dirty(table: &mut [u64]) {
 }
 
 // Judges with a table of this length, 8,448 numbers at most, and prints the answer.
-pub fn answer_judge(rule: &[u8], word: &[u8], length: usize, limit: u64) {
+pub fn answer_judge<W: Write>(out: &mut W, rule: &[u8], word: &[u8], length: usize, limit: u64) {
     let mut table = [0u64; 8448];
     make_dirty(&mut table);
     if 8448 < length {
         return;
     }
-    answer_in(rule, word, limit, &mut table[..length]);
+    answer_in(out, rule, word, limit, &mut table[..length]);
 }

@@ -1,19 +1,21 @@
-// Prints bytes and numbers, these as the checker writes them.
+// Prints bytes and numbers, these as the checker writes them. A write that fails is let go.
 
-pub fn print(text: &[u8]) {
-    io::write_all(1, text);
+use std::io::Write;
+
+pub fn print<W: Write>(out: &mut W, text: &[u8]) {
+    let _ = out.write_all(text);
 }
 
 // A number's digits.
-pub fn print_decimal(x: u64) {
+pub fn print_decimal<W: Write>(out: &mut W, x: u64) {
     let digits = decimal::digits_of(x);
     let bytes = digits.bytes;
     let len = digits.len;
-    print(&bytes[..len]);
+    print(out, &bytes[..len]);
 }
 
 // A number behind a sign.
-pub fn print_number(sign: u8, n: usize) {
-    print(&[sign]);
-    print_decimal(n as u64);
+pub fn print_number<W: Write>(out: &mut W, sign: u8, n: usize) {
+    print(out, &[sign]);
+    print_decimal(out, n as u64);
 }

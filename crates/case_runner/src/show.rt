@@ -6,137 +6,138 @@ use day::Outcome as DayOutcome;
 use event::sets;
 use event::sets::LetterSet;
 use expression::{Kind, Node};
+use std::io::Write;
 use verdict::Verdict;
 
 // The letters of a set, rising.
-fn print_set(set: LetterSet) {
+fn print_set<W: Write>(out: &mut W, set: LetterSet) {
     let mut index = sets::next_index(set, 0);
     while index < 52 {
-        print(&[sets::letter_at(index)]);
+        print(out, &[sets::letter_at(index)]);
         index = sets::next_index(set, index + 1);
     }
 }
 
 // A set's letters, or the sign of another kind; a dot stands for concatenation.
-fn print_kind(kind: Kind) {
+fn print_kind<W: Write>(out: &mut W, kind: Kind) {
     match kind {
-        Kind::Empty => print(b"0"),
-        Kind::Epsilon => print(b"1"),
-        Kind::Letter(set) => print_set(set),
-        Kind::Union => print(b"|"),
-        Kind::Intersection => print(b"&"),
-        Kind::Concatenation => print(b"."),
-        Kind::Complement => print(b"!"),
-        Kind::Star => print(b"*"),
+        Kind::Empty => print(out, b"0"),
+        Kind::Epsilon => print(out, b"1"),
+        Kind::Letter(set) => print_set(out, set),
+        Kind::Union => print(out, b"|"),
+        Kind::Intersection => print(out, b"&"),
+        Kind::Concatenation => print(out, b"."),
+        Kind::Complement => print(out, b"!"),
+        Kind::Star => print(out, b"*"),
     }
 }
 
-fn print_node(node: Node) {
-    print_decimal(node.offset as u64);
-    print(b":");
+fn print_node<W: Write>(out: &mut W, node: Node) {
+    print_decimal(out, node.offset as u64);
+    print(out, b":");
     let kind = node.kind;
-    print_kind(kind);
+    print_kind(out, kind);
 }
 
 // A 64-bit number behind a tab.
-fn print_field(n: u64) {
-    print(b"\t");
-    print_decimal(n);
+fn print_field<W: Write>(out: &mut W, n: u64) {
+    print(out, b"\t");
+    print_decimal(out, n);
 }
 
 // Number, place, found and count.
-pub fn print_verdict(verdict: Verdict) {
-    print_field(verdict.number);
-    print_field(verdict.place);
-    print_field(verdict.found);
-    print_field(verdict.count);
+pub fn print_verdict<W: Write>(out: &mut W, verdict: Verdict) {
+    print_field(out, verdict.number);
+    print_field(out, verdict.place);
+    print_field(out, verdict.found);
+    print_field(out, verdict.count);
 }
 
 // The first m records, or a dash.
-fn print_records(nodes: [Node; 64], m: usize) {
+fn print_records<W: Write>(out: &mut W, nodes: [Node; 64], m: usize) {
     if m == 0 {
-        print(b"-");
+        print(out, b"-");
     }
     for i in 0..64 {
         if i < m {
             if 0 < i {
-                print(b";");
+                print(out, b";");
             }
-            print_node(nodes[i]);
+            print_node(out, nodes[i]);
         }
     }
 }
 
-fn print_rule(verdict: Verdict, m: usize, k: usize, nodes: [Node; 64]) {
-    print(b"rule");
-    print_verdict(verdict);
-    print_number(b'\t', m);
-    print_number(b'\t', k);
-    print(b"\t");
-    print_records(nodes, m);
-    print(b"\n");
+fn print_rule<W: Write>(out: &mut W, verdict: Verdict, m: usize, k: usize, nodes: [Node; 64]) {
+    print(out, b"rule");
+    print_verdict(out, verdict);
+    print_number(out, b'\t', m);
+    print_number(out, b'\t', k);
+    print(out, b"\t");
+    print_records(out, nodes, m);
+    print(out, b"\n");
 }
 
 // Reads a rule text and prints the answer.
-pub fn answer_rule(text: &[u8]) {
+pub fn answer_rule<W: Write>(out: &mut W, text: &[u8]) {
     let rule = rule::read(text);
     let outcome = rule.outcome;
     let nodes = rule.nodes;
     let verdict = rule::outcome_verdict(outcome);
     let m = rule::node_count(outcome);
     let k = rule::special_count(outcome);
-    print_rule(verdict, m, k, nodes);
+    print_rule(out, verdict, m, k, nodes);
 }
 
 // A buffer's element, with a comma in front unless it is the first.
-fn print_element(i: usize, x: u32) {
+fn print_element<W: Write>(out: &mut W, i: usize, x: u32) {
     if 0 < i {
-        print(b",");
+        print(out, b",");
     }
-    print_decimal(x as u64);
+    print_decimal(out, x as u64);
 }
 
 fn wide(b: u8) -> u32 {
     b as u32
 }
 
-fn print_letters(letters: &[u8]) {
-    print(b"\t");
+fn print_letters<W: Write>(out: &mut W, letters: &[u8]) {
+    print(out, b"\t");
     if letters.len() == 0 {
-        print(b"-");
+        print(out, b"-");
     }
     for i in 0..letters.len() {
-        print_element(i, wide(letters[i]));
+        print_element(out, i, wide(letters[i]));
     }
 }
 
-fn print_seconds(seconds: &[u32]) {
-    print(b"\t");
+fn print_seconds<W: Write>(out: &mut W, seconds: &[u32]) {
+    print(out, b"\t");
     if seconds.len() == 0 {
-        print(b"-");
+        print(out, b"-");
     }
     for i in 0..seconds.len() {
-        print_element(i, seconds[i]);
+        print_element(out, i, seconds[i]);
     }
 }
 
-fn print_day(verdict: Verdict, n: usize) {
-    print(b"day");
-    print_verdict(verdict);
-    print_number(b'\t', n);
+fn print_day<W: Write>(out: &mut W, verdict: Verdict, n: usize) {
+    print(out, b"day");
+    print_verdict(out, verdict);
+    print_number(out, b'\t', n);
 }
 
-fn print_outcome(outcome: DayOutcome) {
+fn print_outcome<W: Write>(out: &mut W, outcome: DayOutcome) {
     let verdict = day::outcome_verdict(outcome);
-    print_day(verdict, day::event_count(outcome));
+    print_day(out, verdict, day::event_count(outcome));
 }
 
 // Reads a day file into the two buffers and prints the answer, and the buffers whole.
-fn answer_in(file: &[u8], letters: &mut [u8], seconds: &mut [u32]) {
-    print_outcome(day::read(file, letters, seconds));
-    print_letters(letters);
-    print_seconds(seconds);
-    print(b"\n");
+fn answer_in<W: Write>(out: &mut W, file: &[u8], letters: &mut [u8], seconds: &mut [u32]) {
+    print_outcome(out, day::read(file, letters, seconds));
+    print_letters(out, letters);
+    print_seconds(out, seconds);
+    print(out, b"\n");
 }
 
 // What a buffer's element is before the call: nothing that a day could put there.
@@ -169,25 +170,38 @@ fn seconds_before() -> [u32; 1024]
 }
 
 // Reads a day file into the first elements of the two buffers.
-fn answer_in_part(file: &[u8], letters: &mut [u8], m: usize, seconds: &mut [u32], n: usize) {
+fn answer_in_part<W: Write>(
+    out: &mut W,
+    file: &[u8],
+    letters: &mut [u8],
+    m: usize,
+    seconds: &mut [u32],
+    n: usize,
+) {
     if letters.len() < m {
         return;
     }
     if seconds.len() < n {
         return;
     }
-    answer_in(file, &mut letters[..m], &mut seconds[..n]);
+    answer_in(out, file, &mut letters[..m], &mut seconds[..n]);
 }
 
 // Reads a day file into buffers of these lengths, 1,024 at most, and prints the answer.
-pub fn answer_day(file: &[u8], letters_length: usize, seconds_length: usize) {
+pub fn answer_day<W: Write>(
+    out: &mut W,
+    file: &[u8],
+    letters_length: usize,
+    seconds_length: usize,
+) {
     let mut letters = letters_before();
     let mut seconds = seconds_before();
     answer_in_part(
+        out,
         file,
         &mut letters,
         letters_length,
         &mut seconds,
         seconds_length,
-    );
+    )
 }

@@ -1,2 +1,2 @@
--- What a read or a write says of its buffer.
-mod TransferLaws
+-- What a loop of reads or of writes has moved so far.
+mod Moved

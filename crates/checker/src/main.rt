@@ -1,12 +1,16 @@
 // The program: reads a job from standard input and writes its listing, or the line of its refusal, to standard output. Where a read fails
 // it writes nothing: a day that was cut at the end of a line looks whole.
+#![tactic(auto)]
+
 ghost use Rattle.std.specs.Prelude.{◌≡◌, ◌≤◌, length, take};
 ghost use Rattle.job.specs.JobComputed.{job_text};
 ghost use Rattle.job.specs.JobMeaning.{Writes};
-ghost use Rattle.checker.specs.Transfers.{Within};
+ghost use Rattle.std.specs.Io.KnownBytes.{Appends};
+ghost use Rattle.checker.specs.Transfers.{Within, Taken, NoneAtEnd, LessAtEnd, Put};
+ghost use Rattle.checker.specs.Runs.{Ran};
 
-use libc::{EINTR, STDIN_FILENO, STDOUT_FILENO};
 use listing::Line;
+use std::io::{ErrorKind, Read, Write};
 
 // 01: "at most 2,809 bytes (what follows is unread and the job is what was read)".
 const MOST_BYTES: usize = 2809;
@@ -21,23 +25,32 @@ enum Transfer {
     Failed,
 }
 
-fn main() {
-    let mut input = [0u8; MOST_BYTES];
-    let Transfer::Bytes(got) = read_job(&mut input) else {
-        return;
+fn main(rt: HostRuntime) {
+    let _ = run(&mut rt.stdin(), &mut rt.stdout());
+}
+
+// Reads a job and writes the text that it comes to; answers how many bytes of the text were written, or that the job could not be read.
+fn run<R: Read, W: Write>(reader: &mut R, writer: &mut W) -> Transfer
+    ensures { Ran (R.remaining reader.old) (R.remaining reader.new) (W.contents writer.old) (W.contents writer.new) result }
+{
+    let mut job = [0u8; MOST_BYTES];
+    let Transfer::Bytes(got) = read_job(reader, &mut job) else {
+        return Transfer::Failed;
     };
     let mut out = [0u8; MOST_TEXT];
-    let n = answer(&input[..got], &mut out);
-    write_text(&out[..n]);
+    let n = answer(&job[..got], &mut out);
+    Transfer::Bytes(write_text(writer, &out[..n]))
 }
 
 // Reads until the buffer is full or the input ends. It asks for no more than there is room for, so what follows stays unread.
-fn read_job(job: &mut [u8]) -> Transfer
-    ensures { Within result job.new }
+fn read_job<R: Read>(reader: &mut R, job: &mut [u8]) -> Transfer
+    ensures within { Within result job.new }
+    ensures taken { Taken (R.remaining reader.old) (R.remaining reader.new) result job.new }
+    ensures at_end { LessAtEnd (R.remaining reader.new) result job.new }
 {
     let mut done = 0;
     while done < job.len() {
-        let Transfer::Bytes(n) = read_some(&mut job[done..]) else {
+        let Transfer::Bytes(n) = read_some(reader, &mut job[done..]) else {
             return Transfer::Failed;
         };
         if n == 0 {
@@ -48,53 +61,58 @@ fn read_job(job: &mut [u8]) -> Transfer
     Transfer::Bytes(done)
 }
 
-// One read, made again where a signal interrupted it. A proved loop has to end, and nothing says that the signals do: so it counts its turns
-// down, from a number that no run uses up. Were they used up, that would be a failure, not the input's end.
-fn read_some(buf: &mut [u8]) -> Transfer
-    ensures { Within result buf.new }
+// One read, made again where a signal interrupted it. A proved loop has to end, and nothing says that the signals do: so it counts its turns,
+// up to a number that no run reaches. Were it reached, that would be a failure, not the input's end.
+fn read_some<R: Read>(reader: &mut R, buf: &mut [u8]) -> Transfer
+    ensures within { Within result buf.new }
+    ensures taken { Taken (R.remaining reader.old) (R.remaining reader.new) result buf.new }
+    ensures at_end { NoneAtEnd (R.remaining reader.new) result buf.new }
 {
-    let mut turns = u64::MAX;
-    while turns > 0 {
-        let got = libc::read(STDIN_FILENO, buf);
-        if got >= 0 {
-            return Transfer::Bytes(io::count(got, buf));
+    for _ in 0..u64::MAX {
+        match reader.read(buf) {
+            Ok(n) => return Transfer::Bytes(n),
+            Err(e) => {
+                if e.kind() != ErrorKind::Interrupted {
+                    return Transfer::Failed;
+                }
+            }
         }
-        if os::errno() != EINTR {
-            return Transfer::Failed;
-        }
-        turns -= 1;
     }
     Transfer::Failed
 }
 
-// Writes the text to its end, unless a write fails or takes nothing.
-fn write_text(text: &[u8]) {
+// Writes the text to its end, unless a write fails or takes nothing; answers how many bytes were written.
+fn write_text<W: Write>(writer: &mut W, text: &[u8]) -> usize
+    ensures within { result ≤ length text.now }
+    ensures put { Appends (W.contents writer.old) (W.contents writer.new) (take result text.now) }
+{
     let mut done = 0;
     while done < text.len() {
-        let Transfer::Bytes(n) = write_some(&text[done..]) else {
-            return;
+        let Transfer::Bytes(n) = write_some(writer, &text[done..]) else {
+            return done;
         };
         if n == 0 {
-            return;
+            return done;
         }
         done += n;
     }
+    done
 }
 
 // One write, made again as a read is.
-fn write_some(text: &[u8]) -> Transfer
-    ensures { Within result text.now }
+fn write_some<W: Write>(writer: &mut W, text: &[u8]) -> Transfer
+    ensures within { Within result text.now }
+    ensures put { Put (W.contents writer.old) (W.contents writer.new) result text.now }
 {
-    let mut turns = u64::MAX;
-    while turns > 0 {
-        let put = libc::write(STDOUT_FILENO, text);
-        if put >= 0 {
-            return Transfer::Bytes(io::count(put, text));
+    for _ in 0..u64::MAX {
+        match writer.write(text) {
+            Ok(n) => return Transfer::Bytes(n),
+            Err(e) => {
+                if e.kind() != ErrorKind::Interrupted {
+                    return Transfer::Failed;
+                }
+            }
         }
-        if os::errno() != EINTR {
-            return Transfer::Failed;
-        }
-        turns -= 1;
     }
     Transfer::Failed
 }
@@ -119,10 +137,6 @@ fn put_line(line: Line, out: &mut [u8]) -> usize
     ensures { (result ≡ line.len) × (take result out.new ≡ take line.len line.bytes) }
 {
     let n = line.len;
-    let mut i = 0;
-    while i < n {
-        out[i] = line.bytes[i];
-        i += 1;
-    }
+    out[..n].copy_from_slice(&line.bytes[..n]);
     n
 }

@@ -9,7 +9,7 @@ use lib.Seq.{sets}
 use borrow.Author.Tests.{lt-ltb}
 use Rattle.day.specs.DayFile.{DayEvent, letter_of, second_of, Lines, done, more}
 use Rattle.day.specs.DayLines.{LinesResult, stopped, events, day_lines, checked, with_line, events_of}
-use Rattle.day.specs.DayAnswer.{DayAnswer, values, day_values}
+use Rattle.day.specs.DayAnswer.{DayAnswer, day_values}
 use Rattle.day.specs.DayComputed.{day_events, answered, day_answer}
 use Rattle.day.specs.DayMeaning.{DayMeaning}
 use Rattle.day.specs.declared.Outcome.TheVariants.{Accepted, Refused}

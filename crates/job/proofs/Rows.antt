@@ -1,5 +1,5 @@
 -- What a job comes to, row by row, by what its texts mean. Assumes nothing.
-use Prim.Native.Nat.{ℕ, ◌+◌, ◌≤◌}
+use Prim.Native.Nat.{ℕ, ◌≤◌}
 use native.Mathlib.Omega.{arith}
 use mathlib.Core.Path.{◌≡◌, refl, sym, ap, ap₂, subst, ◌∙◌}
 use mathlib.Core.Bool.{Bool, true, false, true≢false}
@@ -26,7 +26,7 @@ use Rattle.day.proofs.Answered as day-answered
 use Rattle.day.proofs.Rows as day-rows
 use Rattle.work.specs.Count.{full_count}
 use Rattle.work.specs.Table.{need_of}
-use Rattle.work.specs.TableComputed.{found, block}
+use Rattle.work.specs.TableComputed.{block}
 use Rattle.work.proofs.WorkBound.{full_bound}
 use Rattle.matcher.specs.MatchComputed.{acceptance}
 use Rattle.matcher.specs.MatchMeaning.{LegalWord}

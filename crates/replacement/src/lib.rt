@@ -1,1 +1,3 @@
+#![tactic(auto)]
+
 // No code: this crate is specs/ and proofs/, names in a rule text, the text that they stand for, and its reading.

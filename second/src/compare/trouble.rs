@@ -20,9 +20,6 @@ use super::{troubled_input, troubled_output};
 use crate::job;
 use crate::limits::{MAX_DAY_LINES, MAX_JOB_BYTES};
 
-/// The signal that ends a program whose output nobody reads.
-const SIGPIPE: i32 = 13;
-
 /// A job whose beginnings up to any line's end are accepted jobs too: whoever takes a failure for
 /// the end of the input has something to print.
 const JOB: &[u8] = b"R\t(ab)*&!(ba)\nE\t0\ta\nE\t7\tb\nE\t7\ta\nE\t89999\tb\n";
@@ -109,8 +106,8 @@ impl Trouble {
             | Trouble::InputFailsLater
             | Trouble::InputOutOfTime
             | Trouble::InputNotReady
-            | Trouble::OutputFull => (Vec::new(), 0),
-            Trouble::OutputReadByNobody => (Vec::new(), SIGPIPE),
+            | Trouble::OutputFull
+            | Trouble::OutputReadByNobody => (Vec::new(), 0),
             Trouble::InputFailsBeyond
             | Trouble::InputInterruptedSocket
             | Trouble::InputInterruptedPipe

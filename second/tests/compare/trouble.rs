@@ -77,18 +77,17 @@ fn a_program_that_is_started_does_not_ignore_the_signal_of_a_broken_pipe() {
 }
 
 #[test]
-fn the_second_program_keeps_all_promises_but_two() {
+fn the_second_program_keeps_all_promises_but_one() {
     for trouble in Trouble::ALL {
         match trouble {
             Trouble::InputClosed => check_fails(SECOND, trouble, r#""X" in "X\t16\t0\n""#),
-            Trouble::OutputReadByNobody => check_fails(SECOND, trouble, "signal: 13 (SIGPIPE)"),
             _ => check_passes(SECOND, trouble),
         }
     }
 }
 
 #[test]
-fn a_right_program_keeps_these_two() {
+fn a_right_program_keeps_this_one_too() {
     let program = script("right-in-trouble", RIGHT);
     check_passes(&program, Trouble::InputClosed);
     check_passes(&program, Trouble::OutputReadByNobody);
@@ -135,6 +134,12 @@ fn a_program_that_prints_only_what_a_pipe_takes_at_once_is_found() {
     ] {
         check_fails(&program, trouble, "byte 65536 of the standard output");
     }
+}
+
+#[test]
+fn a_program_that_a_broken_pipe_ends_by_its_signal_is_found() {
+    let program = script("pipe-signal", "kill -s PIPE $$");
+    check_fails(&program, Trouble::OutputReadByNobody, "signal: 13 (SIGPIPE)");
 }
 
 #[test]

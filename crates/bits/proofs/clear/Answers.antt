@@ -1,6 +1,5 @@
 -- `clear` leaves zeros in front of the rest. Assumes nothing.
 use mathlib.Core.Path.{◌≡◌}
-use Prim.Native.Nat.{◌-◌}
 use borrow.Author.Fill.{fill_more}
 use borrow.Author.Rules.{rules}
 use native.Mathlib.Omega.{arith}

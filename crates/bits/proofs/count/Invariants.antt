@@ -2,7 +2,6 @@
 use mathlib.Core.Path.{◌≡◌}
 use Prim.Native.Nat.{◌≤◌, ◌-◌, ◌*◌}
 use lib.ListN.{take}
-use lib.Count.{ones}
 use Rattle.bits.specs.Bit.{ones_of}
 use Rattle.bits.proofs.count.Given as goal
 

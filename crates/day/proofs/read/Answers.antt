@@ -1,5 +1,4 @@
 -- `read` meets its contract. Assumes nothing.
-use borrow.Author.Tests.{ltb-true, ltb-false}
 use mathlib.Core.Logic.{inl, inr, ⊎_elim}
 use Rattle.day.proofs.Results.{too_long, bad_line, short, all_formed, filled}
 use Rattle.day.proofs.read.Goals as goal

@@ -1,9 +1,6 @@
 -- `width` counts the digits: a number has one more for each power of ten from ten on that is not above it. Assumes nothing.
-use Prim.Native.Nat.{◌-◌}
 use native.Mathlib.Omega.{arith}
 use borrow.Author.Tests.{leb-true, leb-false}
-use lib.ListN.{length}
-use Rattle.decimal.specs.Decimal.{decimal}
 use Rattle.decimal.proofs.NumeralLaws.{decimal_some, decimal_length, decimal_few, decimal_many}
 use Rattle.decimal.proofs.width.Goals as goal
 

@@ -1,6 +1,5 @@
 -- `merge_events` answers as `after_both`. Assumes nothing.
 use native.Mathlib.Omega.{arith}
-use borrow.Author.Tests.{ltb-true}
 use mathlib.Core.Logic.{inl, inr, ⊎_elim}
 use Rattle.merge.proofs.Steps.{answers_many, answers_short, answers_events}
 use Rattle.merge.proofs.merge_events.Goals as goal

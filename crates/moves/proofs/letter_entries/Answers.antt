@@ -1,6 +1,5 @@
 -- `letter_entries` adds the entries node by node. Assumes nothing.
 use mathlib.Core.Path.{◌≡◌, ◌∙◌}
-use Prim.Native.Nat.{◌-◌}
 use native.Mathlib.Omega.{arith}
 use Rattle.moves.proofs.RecordLaws.{letters_none, letters_turn}
 use Rattle.moves.proofs.letter_entries.Goals as goal

@@ -1,6 +1,5 @@
 -- `special_entries` adds the entries node by node. Assumes nothing.
 use mathlib.Core.Path.{◌≡◌, ◌∙◌}
-use Prim.Native.Nat.{◌-◌}
 use native.Mathlib.Omega.{arith}
 use Rattle.moves.proofs.RecordLaws.{specials_none, specials_turn}
 use Rattle.moves.proofs.special_entries.Goals as goal

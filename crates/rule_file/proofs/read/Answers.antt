@@ -1,5 +1,4 @@
 -- `read` answers as `file_answer`, and so by the grammar. Assumes nothing.
-use Prim.Native.Nat.{◌-◌}
 use native.Mathlib.Omega.{arith}
 use Rattle.rule_file.proofs.ReadLaws.{going_start, with_meaning, refused_here, passes, fewer, going_on, nothing, whole}
 use Rattle.rule_file.proofs.read.Goals as goal

@@ -1,7 +1,7 @@
 -- `read` answers as `file_answer`, and so by the grammar. Assumes nothing.
 use Prim.Native.Nat.{◌-◌}
 use lib.ListN.{length}
-use Rattle.rule_file.proofs.ReadLaws.{Going, nothing}
+use Rattle.rule_file.proofs.ReadLaws.{Going}
 use Rattle.rule_file.proofs.read.Given as goal
 
 abbrev pub invariant-loop-at : goal.invariant-loop-at

@@ -1,6 +1,5 @@
 -- `fill_block` fills the row of each start. Assumes nothing.
 use mathlib.Core.Path.{refl, ◌∙◌}
-use Prim.Native.Nat.{◌-◌}
 use native.Mathlib.Omega.{arith}
 use Rattle.walk.proofs.Caching.{remember_none}
 use Rattle.walk.proofs.Filling.{filling_start, filling_ready, filling_turn, filling_spent, filling_done}

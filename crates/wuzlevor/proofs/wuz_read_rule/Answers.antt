@@ -3,7 +3,6 @@ use Prim.Native.Nat.{◌<◌, ◌≤◌}
 use native.Mathlib.Omega.{arith}
 use mathlib.Core.Logic.{◌⊎◌, inl, inr, ⊎_elim}
 use lib.ListN.{length}
-use borrow.Author.Tests.{ltb-true, ltb-false}
 use Rattle.wuzlevor.proofs.ExportLaws.{rule_fits_lem, rule_returns, rule_writes}
 use Rattle.wuzlevor.proofs.wuz_read_rule.Goals as goal
 

@@ -1,11 +1,9 @@
 -- `count_digits` counts as `digit_count` does. Assumes nothing.
-use Prim.Native.Nat.{◌-◌}
 use borrow.Author.Tests.{not-true, not-false}
 use native.Mathlib.Omega.{arith}
 use mathlib.Core.Path.{sym, ◌∙◌}
 use Rattle.event.proofs.LeadingLaws.{leading_on, leading_here, leading_end}
 use Rattle.decimal.specs.Numeral.{is_digit}
-use Rattle.day.specs.DayLines.{digit_count}
 use Rattle.day.proofs.line.count_digits.Goals as goal
 
 -- the digits up to i, and those after it, are all

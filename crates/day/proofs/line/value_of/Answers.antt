@@ -1,9 +1,8 @@
 -- `value_of` is the number that the digits write. Assumes nothing.
-use Prim.Native.Nat.{◌-◌}
 use native.Mathlib.Omega.{arith}
 use mathlib.Core.Path.{refl, sym, ap, ◌∙◌}
-use lib.ListN.{length, drop, drop_of_length-le}
-use Rattle.decimal.specs.Numeral.{value_from, value_of}
+use lib.ListN.{drop_of_length-le}
+use Rattle.decimal.specs.Numeral.{value_from}
 use Rattle.day.proofs.LineLaws.{digit_at, digits_on, value_on, ten_more, ten_few}
 use Rattle.day.proofs.line.value_of.Goals as goal
 

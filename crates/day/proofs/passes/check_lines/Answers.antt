@@ -1,6 +1,5 @@
 -- `check_lines` finds what `day_lines` comes to. Assumes nothing.
-use Prim.Native.Nat.{◌-◌}
-use borrow.Author.Tests.{ltb-true, ltb-false}
+use borrow.Author.Tests.{ltb-false}
 use native.Mathlib.Omega.{arith}
 use mathlib.Core.Path.{refl}
 use mathlib.Core.Logic.{inl, inr, ⊎_elim}

@@ -1,5 +1,4 @@
 -- `fill` stores the events line by line. Assumes nothing.
-use Prim.Native.Nat.{◌-◌}
 use native.Mathlib.Omega.{arith}
 use Rattle.day.proofs.Turns.{storing_begins, storing_ends, storing_never, storing_fits, storing_on}
 use Rattle.day.proofs.passes.fill.Goals as goal

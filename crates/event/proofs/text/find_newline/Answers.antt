@@ -1,12 +1,10 @@
 -- `find_newline` is how far a text has no newline. Assumes nothing.
-use Prim.Native.Nat.{◌-◌}
 use native.Mathlib.Omega.{arith}
 use mathlib.Core.Path.{ap}
 use mathlib.Core.Bool.{not}
 use lib.ListN.{get_or}
 use borrow.Author.Rules.{rules}
 use borrow.Author.Tests.{eq-eqb, ne_eqb}
-use Rattle.event.specs.Leading.{leading}
 use Rattle.event.proofs.LeadingLaws.{leading_on, leading_here, leading_end}
 use Rattle.event.specs.Text.{not_newline}
 use Rattle.event.proofs.text.find_newline.Goals as goal

@@ -1,7 +1,6 @@
 -- `find_newline` is how far a text has no newline. Assumes nothing.
 use Prim.Native.Nat.{◌+◌, ◌-◌, ◌≤◌}
 use mathlib.Core.Path.{◌≡◌}
-use mathlib.Core.Bool.{not}
 use lib.ListN.{length, drop}
 use Rattle.event.specs.Leading.{leading}
 use Rattle.event.specs.Text.{not_newline}

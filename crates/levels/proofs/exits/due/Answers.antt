@@ -1,6 +1,6 @@
 -- `due` looks at the open nodes, one after another. Assumes nothing.
 use mathlib.Core.Path.{◌∙◌}
-use Prim.Native.Nat.{◌-◌, ◌<◌}
+use Prim.Native.Nat.{◌<◌}
 use native.Mathlib.Omega.{arith}
 use Rattle.levels.proofs.ExitLaws.{dues_start, dues_turn, dues_done, due_law}
 use Rattle.levels.proofs.SetLaws.{missing_less}

@@ -1,5 +1,4 @@
 -- `gap` looks through the numbers of a row. Assumes nothing.
-use mathlib.Core.Path.{ap}
 use Prim.Native.Nat.{◌-◌}
 use Rattle.levels.proofs.ExitLaws.{Gapless}
 use Rattle.levels.proofs.exits.gap.Given as goal

@@ -1,5 +1,4 @@
 -- `join_row` stores the four numbers of a row. Assumes nothing.
-use Prim.Native.Nat.{◌-◌}
 use native.Mathlib.Omega.{arith}
 use Rattle.levels.proofs.ExitLaws.{joining_start, joining_turn, joining_done}
 use Rattle.levels.proofs.exits.join_row.Goals as goal

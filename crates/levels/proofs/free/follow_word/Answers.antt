@@ -1,6 +1,5 @@
 -- `follow_word` follows the states of a number, one after another. Assumes nothing.
 use mathlib.Core.Path.{refl, ◌∙◌}
-use Prim.Native.Nat.{◌-◌}
 use borrow.Author.Rules.{rules}
 use native.Mathlib.Omega.{arith}
 use Rattle.levels.proofs.Following.{following_start, following_turn, following_less, following_done}

@@ -1,5 +1,4 @@
 -- `saturate` enters the special nodes that it comes to, one after another. Assumes nothing.
-use Prim.Native.Nat.{◌-◌}
 use native.Mathlib.Omega.{arith}
 use Rattle.levels.proofs.SetLaws.{missing_less}
 use Rattle.levels.proofs.Saturating.{saturating_start, saturating_done, saturating_turn, entry_even, entry_small}

@@ -1,5 +1,5 @@
 -- `next_end` looks at number after number, from that of `from` on. Assumes nothing.
-use Prim.Native.Nat.{◌-◌, ◌%◌}
+use Prim.Native.Nat.{◌%◌}
 use native.Mathlib.Omega.{arith}
 use lib.Pow.{pow_pos}
 use Rattle.listing.proofs.RowLaws.{none_on, next_found}

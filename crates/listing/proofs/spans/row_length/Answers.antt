@@ -1,8 +1,6 @@
 -- `row_length` sums over the ends of a row whose bit is 1. Assumes nothing.
-use Prim.Native.Nat.{◌-◌}
 use native.Mathlib.Omega.{arith}
 use mathlib.Core.Path.{ap}
-use mathlib.Core.Bool.{true}
 use lib.ListN.{length}
 use Rattle.bits.specs.Bit.{bit_at}
 use Rattle.listing.proofs.WrittenLaws.{line_length}

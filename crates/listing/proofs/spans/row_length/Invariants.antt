@@ -5,7 +5,6 @@ use mathlib.Core.Bool.{true}
 use lib.ListN.{length}
 use Rattle.bits.specs.Bit.{bit_at}
 use Rattle.listing.specs.Marked.{row_lines}
-use Rattle.listing.proofs.SpanLines.{row_length}
 use Rattle.listing.proofs.spans.row_length.Given as goal
 
 abbrev pub invariant-loop-j : goal.invariant-loop-j

@@ -1,8 +1,7 @@
 -- `write_row` writes the lines of the ends of a row whose bit is 1. Assumes nothing.
-use Prim.Native.Nat.{◌+◌, ◌-◌}
+use Prim.Native.Nat.{◌+◌}
 use native.Mathlib.Omega.{arith}
 use mathlib.Core.Path.{sym}
-use mathlib.Core.Bool.{true}
 use Rattle.bits.specs.Bit.{bit_at}
 use Rattle.listing.specs.Marked.{row_lines}
 use Rattle.listing.proofs.WrittenLaws.{part_start, part_fits, part_more, part_as, part_long, part_done}

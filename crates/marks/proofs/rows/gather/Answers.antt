@@ -1,5 +1,4 @@
 -- `gather` sets the bits of the numbers at which both exits are marked, one after another. Assumes nothing.
-use Prim.Native.Nat.{◌-◌}
 use native.Mathlib.Omega.{arith}
 use Rattle.marks.proofs.RowLaws.{gather_start, gather_turn, gather_done}
 use Rattle.marks.proofs.rows.gather.Goals as goal

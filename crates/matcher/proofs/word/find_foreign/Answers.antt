@@ -1,11 +1,9 @@
 -- `find_foreign` is `foreign_at`. Assumes nothing.
-use Prim.Native.Nat.{◌-◌}
 use native.Mathlib.Omega.{arith}
 use mathlib.Core.Path.{sym, ◌∙◌}
 use borrow.Author.Rules.{rules}
 use Rattle.event.specs.Event.{is_event}
 use Rattle.event.proofs.LeadingLaws.{leading_on, leading_here, leading_end}
-use Rattle.matcher.specs.MatchComputed.{foreign_at}
 use Rattle.matcher.proofs.word.find_foreign.Goals as goal
 
 -- the loop's invariant and measure

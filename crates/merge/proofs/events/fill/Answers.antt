@@ -1,5 +1,4 @@
 -- `fill` stores the events of both in the order of the one day. Assumes nothing.
-use Prim.Native.Nat.{◌-◌}
 use native.Mathlib.Omega.{arith}
 use Rattle.merge.proofs.Turns.{storing_begins, storing_ends, first_within, second_within, storing_first, storing_second}
 use Rattle.merge.proofs.events.fill.Goals as goal

@@ -1,6 +1,5 @@
 -- `close` closes the moves. Assumes nothing.
 use mathlib.Core.Path.{◌≡◌}
-use Prim.Native.Nat.{◌-◌}
 use native.Mathlib.Omega.{arith}
 use Rattle.moves.proofs.ClosingLaws.{completed_start, completed_done}
 use Rattle.moves.proofs.closure.close.Goals as goal

@@ -1,7 +1,6 @@
 -- `complete` follows the states of a row, one after another. Assumes nothing.
 use mathlib.Core.Path.{refl, ◌∙◌}
 use mathlib.Core.Logic.{inl}
-use Prim.Native.Nat.{◌-◌}
 use native.Mathlib.Omega.{arith}
 use Rattle.moves.proofs.ClosingLaws.{completing_start, completing_turn, completing_done, next_less}
 use Rattle.moves.proofs.closure.complete.Goals as goal

@@ -1,6 +1,5 @@
 -- `diagonal` pairs each state with itself. Assumes nothing.
 use mathlib.Core.Path.{◌≡◌}
-use Prim.Native.Nat.{◌-◌}
 use native.Mathlib.Omega.{arith}
 use Rattle.moves.proofs.ClosingLaws.{diagonal_none, diagonal_turn}
 use Rattle.moves.proofs.closure.diagonal.Goals as goal

@@ -1,7 +1,5 @@
 -- `add_every` adds one bit for each letter, by rising index. Assumes nothing.
-use Prim.Native.Nat.{◌-◌}
 use native.Mathlib.Omega.{arith}
-use Rattle.event.specs.LetterSets.{every}
 use Rattle.moves.proofs.LetterLaws.{below_all, every_none, every_turn}
 use Rattle.moves.proofs.entries.add_every.Goals as goal
 

@@ -1,6 +1,4 @@
 -- `add_set` adds one bit for each letter of the set, by rising index. Assumes nothing.
-use mathlib.Core.Bool.{true}
-use Prim.Native.Nat.{◌-◌}
 use native.Mathlib.Omega.{arith}
 use Rattle.moves.proofs.LetterLaws.{below_none, below_turn, below_all}
 use Rattle.moves.proofs.entries.add_set.Goals as goal

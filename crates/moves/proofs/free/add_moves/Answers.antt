@@ -1,6 +1,5 @@
 -- `add_moves` adds the moves node by node. Assumes nothing.
 use mathlib.Core.Path.{◌≡◌, ◌∙◌}
-use Prim.Native.Nat.{◌-◌}
 use native.Mathlib.Omega.{arith}
 use Rattle.moves.proofs.RecordLaws.{moves_none, moves_turn}
 use Rattle.moves.proofs.free.add_moves.Goals as goal

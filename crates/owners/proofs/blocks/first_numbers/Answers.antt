@@ -1,8 +1,6 @@
 -- `first_numbers` has the first numbers of all nodes' blocks. Assumes nothing.
-use Prim.Native.Nat.{◌-◌}
 use native.Mathlib.Omega.{arith}
 use mathlib.Core.Path.{sym, ap, ◌∙◌}
-use mathlib.Core.Logic.{⊎_elim}
 use lib.ListN.{length}
 use Rattle.owners.proofs.FirstLoops.{special_first, plain_first, before_small, placing_begins, placing_on, placing_past}
 use Rattle.owners.proofs.FirstLoops.{placing_same, placing_ends}

@@ -1,5 +1,4 @@
 -- `specials_before` is `specials_before`. Assumes nothing.
-use Prim.Native.Nat.{◌-◌}
 use native.Mathlib.Omega.{arith}
 use Rattle.owners.proofs.FirstLoops.{counting_begins, counting_on, counting_ends}
 use Rattle.owners.proofs.blocks.specials_before.Goals as goal

@@ -1,5 +1,4 @@
 -- `left_sides` has the left or only side of every node. Assumes nothing.
-use Prim.Native.Nat.{◌-◌}
 use native.Mathlib.Omega.{arith}
 use Rattle.owners.proofs.SideLaws.{siding_begins, siding_known, siding_on, siding_ends}
 use Rattle.owners.proofs.sides.left_sides.Goals as goal

@@ -1,8 +1,7 @@
 -- `fill_specials` gives each special node its turn. Assumes nothing.
-use Prim.Native.Nat.{◌-◌, ◌<◌}
+use Prim.Native.Nat.{◌<◌}
 use native.Mathlib.Omega.{arith}
 use mathlib.Core.Path.{refl, sym, subst, ◌∙◌}
-use mathlib.Core.Logic.{⊎_elim}
 use Rattle.owners.proofs.Settings.{relent}
 use Rattle.owners.proofs.Turning.{plain_turn, turning_begins, turning_on, turning_same, turning_spent, turning_ends}
 use Rattle.owners.proofs.turns.fill_specials.Goals as goal

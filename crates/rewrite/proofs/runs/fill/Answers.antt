@@ -1,10 +1,8 @@
 -- `fill` writes the bytes that stay. Assumes nothing.
-use Prim.Native.Nat.{◌-◌}
 use native.Mathlib.Omega.{arith}
 use mathlib.Core.Path.{sym, ap, ◌∙◌}
 use mathlib.Core.Bool.{not}
-use mathlib.Core.Logic.{inl, inr, ⊎_elim}
-use borrow.Author.Tests.{not-true}
+use mathlib.Core.Logic.{inl, inr}
 use Rattle.rewrite.proofs.Turns.{writing_begins, writing_on, writing_fits, writing_ends}
 use Rattle.rewrite.proofs.runs.fill.Goals as goal
 use Rattle.rewrite.proofs.runs.fill.Goals.{then-not-is_double, else-not-is_double}

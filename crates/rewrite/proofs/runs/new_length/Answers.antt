@@ -1,10 +1,8 @@
 -- `new_length` counts the bytes that stay. Assumes nothing.
-use Prim.Native.Nat.{◌-◌}
 use native.Mathlib.Omega.{arith}
 use mathlib.Core.Path.{ap}
 use mathlib.Core.Bool.{not}
-use mathlib.Core.Logic.{inl, inr, ⊎_elim}
-use lib.ListN.{length}
+use mathlib.Core.Logic.{inl, inr}
 use Rattle.rewrite.proofs.Turns.{counting_on, counting_ends}
 use Rattle.rewrite.proofs.runs.new_length.Goals as goal
 use Rattle.rewrite.proofs.runs.new_length.Goals.{then-not-is_double, else-not-is_double}

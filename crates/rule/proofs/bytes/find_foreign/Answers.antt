@@ -1,11 +1,9 @@
 -- `find_foreign` is `foreign_at`. Assumes nothing.
-use Prim.Native.Nat.{◌-◌}
 use native.Mathlib.Omega.{arith}
 use mathlib.Core.Path.{sym, ◌∙◌}
 use borrow.Author.Rules.{rules}
 use Rattle.event.proofs.LeadingLaws.{leading_on, leading_here, leading_end}
 use Rattle.rule.specs.RuleAnswer.{is_rule_byte}
-use Rattle.rule.specs.RuleComputed.{foreign_at}
 use Rattle.rule.proofs.bytes.find_foreign.Goals as goal
 
 -- the loop's invariant and measure

@@ -1,11 +1,9 @@
 -- `count_letters` counts the letters that lead. Assumes nothing.
-use Prim.Native.Nat.{◌-◌}
 use native.Mathlib.Omega.{arith}
 use mathlib.Core.Path.{sym, ◌∙◌}
 use borrow.Author.Rules.{rules}
 use Rattle.event.proofs.LeadingLaws.{leading_on, leading_here, leading_end}
 use Rattle.event.specs.Event.{is_event}
-use Rattle.event.specs.Leading.{leading}
 use Rattle.rule.proofs.leaf.count_letters.Goals as goal
 
 -- the loop's invariant and measure

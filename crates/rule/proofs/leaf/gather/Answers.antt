@@ -1,10 +1,10 @@
 -- `gather` is the set of a text's letters. Assumes nothing.
-use Prim.Native.Nat.{◌+◌, ◌-◌}
+use Prim.Native.Nat.{◌+◌}
 use native.Mathlib.Omega.{arith}
 use mathlib.Core.Path.{sym, ap, ◌∙◌}
 use lib.ListN.{drop}
 use borrow.Author.Rules.{rules}
-use Rattle.event.specs.LetterSets.{none, gathered}
+use Rattle.event.specs.LetterSets.{gathered}
 use Rattle.event.specs.declared.sets.LetterSet.{LetterSet}
 use Rattle.event.proofs.SetLaws.{gathered_on, gathered_end}
 use Rattle.rule.proofs.leaf.gather.Goals as goal

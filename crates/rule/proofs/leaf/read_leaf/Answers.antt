@@ -1,7 +1,6 @@
 -- `read_leaf` is `leaf_at`. Assumes nothing.
 use borrow.Author.Tests.{ne_eqb}
 use borrow.Author.Rules.{rules}
-use Rattle.event.specs.LetterSets.{single}
 use Rattle.expression.specs.Leaves.{leaf_at}
 use Rattle.rule.proofs.leaf.read_leaf.Goals as goal
 

@@ -1,13 +1,10 @@
 -- The cycle of the reader's levels: what each returns is what `parse` gives, by the laws of ReaderLaws. Assumes nothing.
 -- A level's measure is eight for each byte of the unread text, and a few by the level.
-use Prim.Native.Nat.{ℕ, ◌-◌, ◌+◌}
+use Prim.Native.Nat.{ℕ, ◌+◌}
 use native.Mathlib.Omega.{arith}
 use mathlib.Core.Path.{sym, ap, ◌∙◌}
-use lib.ListN.{length}
-use Rattle.expression.specs.Parse.{alt, conj, seq, pre, post, atom, measure}
 use Rattle.expression.specs.declared.Leaf.{Leaf}
 use Rattle.expression.proofs.LeafLaws.{leaf_fits}
-use Rattle.rule.specs.Reader.{at}
 use Rattle.rule.specs.declared.levels.Reading.{Reading}
 use Rattle.event.proofs.Tails.{tail_length}
 use Rattle.rule.proofs.ReaderLaws.{first_there, sign_there, start_there, named, same_offset}

@@ -1,10 +1,10 @@
 -- `find_unordered` is `unordered_at`. Assumes nothing.
-use Prim.Native.Nat.{ℕ, ◌+◌, ◌-◌}
+use Prim.Native.Nat.{ℕ, ◌+◌}
 use native.Mathlib.Omega.{arith}
 use mathlib.Core.Path.{sym, ap, ◌∙◌}
 use lib.ListN.{drop}
 use borrow.Author.Rules.{rules}
-use Rattle.expression.specs.OrderComputed.{unordered_from, unordered_at}
+use Rattle.expression.specs.OrderComputed.{unordered_from}
 use Rattle.expression.proofs.UnorderedLaws.{unordered_on, unordered_here, unordered_end}
 use Rattle.rule.proofs.order.find_unordered.Goals as goal
 

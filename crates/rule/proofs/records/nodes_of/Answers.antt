@@ -1,5 +1,4 @@
 -- `nodes_of` is `nodes_of`. Assumes nothing.
-use Prim.Native.Nat.{◌-◌}
 use native.Mathlib.Omega.{arith}
 use mathlib.Core.Path.{refl}
 use Rattle.rule.proofs.Stored.{decoding_on, decoding_ends}

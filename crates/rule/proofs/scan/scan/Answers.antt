@@ -1,10 +1,8 @@
 -- `scan` is `scanned`: what the scan finds from where the loop has come is what it finds of the whole text. Assumes nothing.
-use Prim.Native.Nat.{◌-◌}
 use native.Mathlib.Omega.{arith}
 use mathlib.Core.Path.{refl, sym, ◌∙◌}
 use lib.ListN.{get_or}
 use borrow.Author.Rules.{rules}
-use Rattle.expression.specs.Scan.{scanned}
 use Rattle.rule.proofs.ScanLaws.{near, turn_stuck, turn_on, turn_end}
 use Rattle.rule.proofs.scan.scan.Goals as goal
 

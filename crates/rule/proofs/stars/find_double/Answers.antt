@@ -1,9 +1,7 @@
 -- `find_double` is `double_at`. Assumes nothing.
-use Prim.Native.Nat.{◌-◌}
 use native.Mathlib.Omega.{arith}
 use mathlib.Core.Path.{sym, ◌∙◌}
 use borrow.Author.Rules.{rules}
-use Rattle.expression.specs.StarsComputed.{double_at}
 use Rattle.expression.proofs.DoubleLaws.{double_on, double_here, double_end}
 use Rattle.rule.proofs.stars.find_double.Goals as goal
 

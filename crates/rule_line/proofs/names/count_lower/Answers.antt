@@ -1,9 +1,7 @@
 -- `count_lower` counts as `leading is_lower` does. Assumes nothing.
-use Prim.Native.Nat.{◌-◌}
 use borrow.Author.Tests.{not-true, not-false}
 use native.Mathlib.Omega.{arith}
 use mathlib.Core.Path.{sym, ◌∙◌}
-use Rattle.event.specs.Leading.{leading}
 use Rattle.event.proofs.LeadingLaws.{leading_on, leading_here, leading_end}
 use Rattle.replacement.specs.Replaced.{is_lower}
 use Rattle.rule_line.proofs.names.count_lower.Goals as goal

@@ -1,8 +1,7 @@
 -- `find` is `find_from`. Assumes nothing.
-use Prim.Native.Nat.{◌-◌}
 use native.Mathlib.Omega.{arith}
 use mathlib.Core.Path.{sym, ◌∙◌}
-use Rattle.rule_line.specs.Coding.{name_at, find_from}
+use Rattle.rule_line.specs.Coding.{name_at}
 use Rattle.rule_line.proofs.CodeLaws.{find_here, find_on, find_end, find_start, name_told}
 use Rattle.rule_line.proofs.names.find.Goals as goal
 

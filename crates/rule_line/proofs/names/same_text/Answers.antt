@@ -1,9 +1,6 @@
 -- `same_text` is `same_text`. Assumes nothing.
-use Prim.Native.Nat.{◌-◌}
 use native.Mathlib.Omega.{arith}
 use mathlib.Core.Path.{refl, sym, ◌∙◌}
-use lib.ListN.{length}
-use Rattle.rule_line.specs.LineComputed.{same_text}
 use Rattle.rule_line.proofs.LineNames.{same_length, same_on, same_stops, same_ends}
 use Rattle.rule_line.proofs.names.same_text.Goals as goal
 

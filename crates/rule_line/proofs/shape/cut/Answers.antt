@@ -1,8 +1,6 @@
 -- `cut` cuts the rule into its pieces. Assumes nothing.
-use Prim.Native.Nat.{◌-◌}
 use native.Mathlib.Omega.{arith}
 use mathlib.Core.Path.{sym, ◌∙◌}
-use lib.ListN.{length}
 use Rattle.event.proofs.Tails.{tail_length}
 use Rattle.rule_line.proofs.CodeLaws.{cutting_start, cutting_on, cutting_ends}
 use Rattle.rule_line.proofs.shape.cut.Goals as goal

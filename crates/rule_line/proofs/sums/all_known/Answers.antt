@@ -1,8 +1,6 @@
 -- `all_known` is `known_in`. Assumes nothing.
-use Prim.Native.Nat.{◌-◌}
 use native.Mathlib.Omega.{arith}
 use mathlib.Core.Path.{refl, sym, ◌∙◌}
-use Rattle.rule_line.specs.Summing.{known_in}
 use Rattle.rule_line.proofs.SumLaws.{known_on, known_stops, known_end}
 use Rattle.rule_line.proofs.sums.all_known.Goals as goal
 

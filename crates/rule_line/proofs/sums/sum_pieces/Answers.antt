@@ -1,5 +1,4 @@
 -- `sum_pieces` is `summed`, and each place is what stands before. Assumes nothing.
-use Prim.Native.Nat.{◌-◌}
 use native.Mathlib.Omega.{arith}
 use mathlib.Core.Path.{sym, ◌∙◌}
 use Rattle.rule_line.proofs.SumLaws.{summing_start, summing_on, summing_ends, small_more}

@@ -1,9 +1,7 @@
 -- `find_foreign` is the number of leading bytes that a rule in a file may have. Assumes nothing.
-use Prim.Native.Nat.{◌-◌}
 use native.Mathlib.Omega.{arith}
 use mathlib.Core.Path.{sym, ◌∙◌}
 use borrow.Author.Rules.{rules}
-use Rattle.event.specs.Leading.{leading}
 use Rattle.event.proofs.LeadingLaws.{leading_on, leading_here, leading_end}
 use Rattle.rule_line.specs.LineMeaning.{is_written}
 use Rattle.rule_line.proofs.text.find_foreign.Goals as goal

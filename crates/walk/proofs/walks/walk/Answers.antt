@@ -1,8 +1,6 @@
 -- `walk` goes through the numbers from i on, until nothing is left or the limit is passed. Assumes nothing.
 use mathlib.Core.Path.{sym, ◌∙◌}
-use mathlib.Core.Bool.{true, false, true≢false}
-use Prim.Native.Nat.{◌-◌}
-use lib.ListN.{length}
+use mathlib.Core.Bool.{true≢false}
 use native.Mathlib.Omega.{arith}
 use Rattle.walk.proofs.WalkLaws.{full_start, before_start, before_turn, before_spent, before_end, end_ends, none_ends, before_finished}
 use borrow.Author.Rules.{rules}

@@ -1,5 +1,5 @@
 -- `write_line_nodes` stores the nodes of each line at the line's place. Assumes nothing.
-use Prim.Native.Nat.{◌-◌, ◌*◌}
+use Prim.Native.Nat.{◌*◌}
 use native.Mathlib.Omega.{arith}
 use mathlib.Core.List.{[]}
 use Rattle.event.proofs.Tails.{tail_length}

@@ -1,10 +1,9 @@
 -- `write_lines` stores two numbers for each line. Assumes nothing.
-use Prim.Native.Nat.{ℕ, ◌-◌, ◌*◌}
+use Prim.Native.Nat.{◌*◌}
 use native.Mathlib.Omega.{arith}
 use mathlib.Core.Path.{refl}
 use mathlib.Core.List.{[]}
 use lib.Seq.{lt-length-set}
-use Rattle.rule_line.specs.declared.LineNodes.{LineNodes}
 use Rattle.wuzlevor.proofs.RowLaws.{writing_begins, writing_on, writing_ends}
 use Rattle.wuzlevor.proofs.row.write_lines.Invariants.{m_of, k_of}
 use Rattle.wuzlevor.proofs.row.write_lines.Goals as goal

@@ -1,9 +1,7 @@
 -- `write_nodes` stores two numbers for each record. Assumes nothing.
-use Prim.Native.Nat.{ℕ, ◌-◌, ◌*◌}
+use Prim.Native.Nat.{◌*◌}
 use native.Mathlib.Omega.{arith}
-use Rattle.expression.specs.KindNumber.{kind_number}
 use Rattle.expression.specs.declared.Kind.TheVariants.{Empty}
-use Rattle.expression.specs.declared.Node.{Node}
 use lib.Seq.{lt-length-set}
 use Rattle.wuzlevor.proofs.RowLaws.{writing_begins, writing_on, writing_ends}
 use Rattle.wuzlevor.proofs.row.write_nodes.Invariants.{offset, kind}

@@ -1,0 +1,43 @@
+-- `answer` puts `job_text` into its buffer: the listing, or the line of the refusal. Assumes nothing.
+use Rattle.std.proofs.Common.{ℕ, ◌≡◌, ◌-◌, ◌≤◌, ◌++◌, replicate, length, take, sym, ap, subst, ◌∙◌, arith}
+use Rattle.std.proofs.lemmas.List.{take_at}
+use Rattle.listing.specs.declared.Line.{Line}
+use Rattle.listing.specs.Lines.{refusal_line}
+use Rattle.job.specs.JobMeaning.{Writes}
+use Rattle.job.proofs.Results.{refusal_most, text_listed, text_stopped, text_within, text_writes}
+use Rattle.checker.proofs.answer.Goals as goal
+
+-- what is known of the line of a refusal
+module _ (n p : ℕ) (l : Line)
+    (e : (l.bytes ≡ refusal_line n p ++ replicate (44 - length (refusal_line n p)) 0) × (l.len ≡ length (refusal_line n p))) where
+  line_short : l.len ≤ 44
+  line_short = omega (arith, e.1, refusal_most n p)
+
+  line_text : take l.len l.bytes ≡ refusal_line n p
+  line_text =
+      ap (take l.len) e.0 ∙ take_at (refusal_line n p) (replicate (44 - length (refusal_line n p)) 0) l.len (sym e.1)
+
+-- the call's own text
+pub returns-then-answer-eq0 : goal.returns-then-answer-eq0
+returns-then-answer-eq0 c =
+    let a = c.run-answer in
+    let listed = text_listed c.args.job.now c.args.out.now c.requires a.result a.new.out a.ensures.value c.if-answer-eq0.true in
+    record {
+      value = (listed, text_within c.args.job.now c.args.out.now c.requires a.result a.new.out a.ensures.value);
+      meaning = subst (Writes c.args.job.now) (sym listed) (text_writes c.args.job.now);
+    }
+
+-- the line of the refusal
+pub returns-clause-value : goal.returns-clause-value
+returns-clause-value c =
+    let a = c.run-answer in
+    let l = c.refusal-line in
+    let kept = c.put_line.auto.out in
+    let short = line_short _ _ l.result l.ensures in (
+      c.put_line.ensures.1 ∙ line_text _ _ l.result l.ensures
+          ∙ text_stopped c.args.job.now c.args.out.now c.requires a.result a.new.out a.ensures.value c.if-answer-eq0.false,
+      omega (arith, c.requires, c.put_line.ensures.0, a.auto.out),
+    )
+
+pub returns-clause-meaning : goal.returns-clause-meaning
+returns-clause-meaning c = subst (Writes c.args.job.now) (sym (returns-clause-value c).0) (text_writes c.args.job.now)
