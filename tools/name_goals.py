@@ -69,33 +69,29 @@ def strip(term):
     return term
 
 
-def comma(term):
-    """Whether a term in parentheses is a tuple."""
-    depth = 0
+def commas(term):
+    """Where the commas of a tuple in parentheses stand."""
+    depth, out = 0, []
     for i, ch in enumerate(term):
         if ch in "([{":
             depth += 1
         elif ch in ")]}":
             depth -= 1
         elif ch == "," and depth == 1:
-            return True
-    return False
+            out.append(i)
+    return out
+
+
+def comma(term):
+    """Whether a term in parentheses is a tuple."""
+    return bool(commas(term))
 
 
 def parts(term):
     """The parts of a tuple."""
-    inner, out, depth, at = term.strip()[1:-1], [], 0, 0
-    for i, ch in enumerate(inner):
-        if ch in "([{":
-            depth += 1
-        elif ch in ")]}":
-            depth -= 1
-        elif ch == "," and depth == 0:
-            out.append(inner[at:i].strip())
-            at = i + 1
-    if inner[at:].strip():
-        out.append(inner[at:].strip())
-    return out
+    term = term.strip()
+    cuts = [0, *commas(term), len(term) - 1]
+    return [part for part in (term[a + 1 : b].strip() for a, b in zip(cuts, cuts[1:])) if part]
 
 
 def binders(term):
