@@ -1,16 +1,17 @@
 -- Runs of numbers to which bits are added, and runs of zeros. Assumes nothing.
-use mathlib.Core.Path.{◌≡◌, refl, sym, ap, ◌∙◌}
+use mathlib.Core.Path.{◌≡◌, refl, sym, ap, ◌∙◌, subst}
 use mathlib.Core.Bool.{Bool, true, false, ◌||◌, false≢true, or-false, or-true}
 use mathlib.Core.Logic.{◌⊎◌, inl, inr, ⊎_elim}
 use mathlib.Core.List.{List, [], ◌∷◌, ◌++◌}
-use Prim.Native.Nat.{ℕ, zero, suc, ◌+◌, ◌*◌, ◌/◌, ◌%◌, ◌^◌, ◌<◌}
+use Prim.Native.Nat.{ℕ, zero, suc, ◌+◌, ◌-◌, ◌*◌, ◌/◌, ◌%◌, ◌^◌, ◌≤◌, ◌<◌}
 use native.Mathlib.Omega.{arith}
 use native.Mathlib.Numerals.{add-one}
 use lib.Count.{ones}
 use lib.ListN.{length, length-set, get_or, take, replicate}
 use lib.Seq.{get_or-set_same, get_or-set_other, take-suc}
+use Rattle.std.proofs.lemmas.Bool.{cases_lt}
 use Rattle.bits.specs.Bit.{has_bit, bit_at, ones_of}
-use Rattle.bits.specs.Runs.{joined, Put, Merged, Adds}
+use Rattle.bits.specs.Runs.{joined, Put, Merged, Adds, RowOf, InRow, NoneLacks, Lowest, NoneFresh, Fresh}
 use Rattle.bits.proofs.Digits.{same_or_not, has_or, power_has, power_lacks, zero_has}
 
 -- ---- ones
@@ -122,3 +123,93 @@ zeros_at (suc n) (suc i) = zeros_at n i
 pub zeros_bit : (n p : ℕ) → bit_at (replicate n 0) p ≡ false
 unfolding bit_at
 zeros_bit n p = ap (has_bit (p % 64)) (zeros_at n (p / 64)) ∙ zero_has (p % 64)
+
+-- ---- bits, by numbers
+
+-- a bit of number w
+pub word_bit : (a : List ℕ) (w b : ℕ) → b < 64 → bit_at a (64 * w + b) ≡ has_bit b (get_or a w 0)
+unfolding bit_at
+word_bit a w b l =
+    let x : (64 * w + b) % 64 ≡ b = omega arith in
+    let y : (64 * w + b) / 64 ≡ w = omega arith in
+    rw (x, y)
+
+pub low_bit : (a : List ℕ) (s : ℕ) → s < 64 → bit_at a s ≡ has_bit s (get_or a 0 0)
+low_bit a s l = let e : s ≡ 64 * 0 + s = omega arith in ap (bit_at a) e ∙ word_bit a 0 s l
+
+pub high_bit : (a : List ℕ) (s : ℕ) → s < 64 → bit_at a (64 + s) ≡ has_bit s (get_or a 1 0)
+high_bit a s l = word_bit a 1 s l
+
+-- a claim on the bits of two numbers, by the two numbers
+pub by_half : (P : ℕ → Type 0) → ((s : ℕ) → s < 64 → P s) → ((s : ℕ) → s < 64 → P (64 + s)) → (s : ℕ) → s < 128 → P s
+by_half P f g s l =
+    ⊎_elim (λ (h : s < 64). f s h)
+    (λ (h : 64 ≤ s). let e : 64 + (s - 64) ≡ s = omega arith in subst P e (g (s - 64) (omega arith)))
+    (cases_lt s 64)
+
+-- ---- rows of two numbers
+
+pub row_law : (a r : List ℕ) (k : ℕ) → get_or r 0 0 ≡ get_or a (2 * k) 0 → get_or r 1 0 ≡ get_or a (2 * k + 1) 0 → RowOf a k r
+row_law a r k e f =
+    by_half (λ (t : ℕ). bit_at r t ≡ bit_at a (128 * k + t))
+    (λ s l.
+    let d : 128 * k + s ≡ 64 * (2 * k) + s = omega arith in
+    low_bit r s l ∙ ap (has_bit s) e ∙ sym (ap (bit_at a) d ∙ word_bit a (2 * k) s l))
+    (λ s l.
+    let d : 128 * k + (64 + s) ≡ 64 * (2 * k + 1) + s = omega arith in
+    high_bit r s l ∙ ap (has_bit s) f ∙ sym (ap (bit_at a) d ∙ word_bit a (2 * k + 1) s l))
+
+-- bit q of two numbers, by the number h in which it stands
+in_two : (r : List ℕ) (q h : ℕ) → h ≡ q % 128 / 64 → bit_at r (q % 128) ≡ has_bit (q % 64) (get_or r h 0)
+unfolding bit_at
+in_two r q h e = let m : q % 128 % 64 ≡ q % 64 = omega arith in rw (m, ← e)
+
+pub row_adds : {a b c : List ℕ} (k : ℕ) (r : List ℕ) → Merged a (2 * k) (get_or r 0 0) b → Merged b (2 * k + 1) (get_or r 1 0) c
+    → Adds a (InRow k r) c
+row_adds k r f g =
+    adds_as
+    (λ q.
+    ⊎_elim
+    (λ (u : (q / 64 ≡ 2 * k) × (has_bit (q % 64) (get_or r 0 0) ≡ true)).
+    let n = u.0 in record { place = omega arith; there = in_two r q 0 (omega arith) ∙ u.1 })
+    (λ (u : (q / 64 ≡ 2 * k + 1) × (has_bit (q % 64) (get_or r 1 0) ≡ true)).
+    let n = u.0 in record { place = omega arith; there = in_two r q 1 (omega arith) ∙ u.1 }))
+    (λ q u.
+    let n = u.place in
+    ⊎_elim (λ (h : q / 64 ≡ 2 * k). inl (h, sym (in_two r q 0 (omega arith)) ∙ u.there))
+    (λ (h : q / 64 ≡ 2 * k → ⊥). inr (omega arith, sym (in_two r q 1 (omega arith)) ∙ u.there))
+    (same_or_not (q / 64) (2 * k)))
+    (adds_then (merged_adds f) (merged_adds g))
+
+-- ---- a bit of two numbers that others lack
+
+pub missing_low : (a b : List ℕ) (p : ℕ) → Lowest (get_or a 0 0) (get_or b 0 0) p → Fresh a b p
+missing_low a b p f =
+    let l = f.within in
+    record {
+      within = omega arith;
+      there = low_bit a p f.within ∙ f.there;
+      fresh = low_bit b p f.within ∙ f.fresh;
+      below = λ q k h. low_bit b q (omega arith) ∙ f.below q k (sym (low_bit a q (omega arith)) ∙ h);
+    }
+
+module _ (a b : List ℕ) (low : NoneLacks (get_or a 0 0) (get_or b 0 0)) where
+  in_low : (q : ℕ) → q < 64 → bit_at a q ≡ true → bit_at b q ≡ true
+  in_low q l h = low_bit b q l ∙ low q l (sym (low_bit a q l) ∙ h)
+
+  pub missing_high : (p : ℕ) → Lowest (get_or a 1 0) (get_or b 1 0) p → Fresh a b (64 + p)
+  missing_high p f =
+      let l = f.within in
+      record {
+        within = omega arith;
+        there = high_bit a p f.within ∙ f.there;
+        fresh = high_bit b p f.within ∙ f.fresh;
+        below = λ q k h.
+            by_half (λ (q : ℕ). q < 64 + p → bit_at a q ≡ true → bit_at b q ≡ true) (λ q m _ h. in_low q m h)
+            (λ q m n h. high_bit b q m ∙ f.below q (omega arith) (sym (high_bit a q m) ∙ h)) q (omega arith) k h;
+      }
+
+  pub none_missing : NoneLacks (get_or a 1 0) (get_or b 1 0) → NoneFresh a b
+  none_missing high =
+      by_half (λ (q : ℕ). bit_at a q ≡ true → bit_at b q ≡ true) in_low
+      (λ q l h. high_bit b q l ∙ high q l (sym (high_bit a q l) ∙ h))

@@ -1,209 +1,110 @@
 // Takes the cases apart.
-ghost use Rattle.std.specs.Prelude.{◌≤◌, length};
+ghost use Rattle.std.specs.Prelude.{◌+◌, ◌<◌, ◌≤◌, length, IfSome};
 
 use crate::judgements::answer_judge;
 use crate::numbers::answer_numbers;
 use crate::show::{answer_day, answer_rule};
 use std::io::Write;
 
-// The largest 64-bit number.
-const MOST: u64 = 18446744073709551615;
+// The largest number that lengths and counts are read up to: they stop at seven digits.
+const MOST: u64 = 9999999;
 
-// A number in a text, and the offset behind its digits.
-#[derive(Drop)]
-struct Number {
-    value: usize,
-    end: usize,
-}
-
-fn digit_of(b: u8) -> usize
-    ensures { result ≤ 255 }
+// The number at the front of a text, and what stands behind its digits; it stops before a digit that would take it above `most`.
+fn number_of(text: &[u8], most: u64) -> (u64, &[u8])
+    ensures { length result.1.now ≤ length text.now }
 {
-    if b < b'0' { 0 } else { (b - b'0') as usize }
-}
-
-// The number that begins at an offset; it stops at seven digits.
-fn number_at(s: &[u8], from: usize) -> Number
-    requires { from ≤ length s.now }
-    ensures { result.end ≤ length s.now }
-{
-    let mut value: usize = 0;
-    for i in from..s.len() {
-        let b = s[i];
-        if b < b'0' || b'9' < b || 999999 < value {
-            return Number {
-                value: value,
-                end: i,
-            };
+    let mut value = 0;
+    for (i, b) in text.iter().enumerate() {
+        match more(value, *b, most) {
+            Some(next) => value = next,
+            None => return (value, &text[i..]),
         }
-        value = value * 10 + digit_of(b);
     }
-    Number {
-        value: value,
-        end: s.len(),
+    (value, &text[text.len()..])
+}
+
+// The number with one digit more behind it, if the byte is a digit and takes it no further than `most`.
+fn more(value: u64, b: u8, most: u64) -> Option<u64> {
+    let digit = u64::from(b.checked_sub(b'0')?);
+    let next = value.checked_mul(10)?.checked_add(digit)?;
+    if digit <= 9 && next <= most {
+        Some(next)
+    } else {
+        None
     }
 }
 
-// A 64-bit number in a text, and the offset behind its digits.
-#[derive(Drop)]
-struct LongNumber {
-    value: u64,
-    end: usize,
-}
-
-// The 64-bit number that begins at an offset; it stops before a digit that would pass 64 bits.
-fn long_number_at(s: &[u8], from: usize) -> LongNumber
-    requires { from ≤ length s.now }
-    ensures { result.end ≤ length s.now }
+// A number behind one byte, and what stands behind its digits.
+fn next_number(text: &[u8], most: u64) -> Option<(u64, &[u8])>
+    ensures { IfSome result (λ r. length r.1.now ≤ length text.now) }
 {
-    let mut value: u64 = 0;
-    for i in from..s.len() {
-        let b = s[i];
-        if b < b'0' || b'9' < b || MOST / 10 < value {
-            return LongNumber {
-                value: value,
-                end: i,
-            };
-        }
-        let digit = digit_of(b) as u64;
-        if MOST - value * 10 < digit {
-            return LongNumber {
-                value: value,
-                end: i,
-            };
-        }
-        value = value * 10 + digit;
-    }
-    LongNumber {
-        value: value,
-        end: s.len(),
-    }
+    Some(number_of(text.get(1..)?, most))
 }
 
-// Answers a rule's case at the front, `rule LEN`, and gives its length; 0 where it is not whole.
-fn rule_case<W: Write>(out: &mut W, s: &[u8]) -> usize {
-    if s.len() < 5 {
-        return 0;
-    }
-    let length = number_at(s, 5);
-    if s.len() <= length.value {
-        return 0;
-    }
-    let from = length.end + 1;
-    let to = from + length.value;
-    if s.len() <= to {
-        return 0;
-    }
-    answer_rule(out, &s[from..to]);
-    to + 1
-}
-
-// Answers a day's case at the front, `day LETTERS SECONDS LEN`, and gives its length; 0 where it is not whole.
-fn day_case<W: Write>(out: &mut W, s: &[u8]) -> usize {
-    if s.len() < 4 {
-        return 0;
-    }
-    let letters = number_at(s, 4);
-    if s.len() <= letters.end {
-        return 0;
-    }
-    let seconds = number_at(s, letters.end + 1);
-    if s.len() <= seconds.end {
-        return 0;
-    }
-    let length = number_at(s, seconds.end + 1);
-    if s.len() <= length.value {
-        return 0;
-    }
-    let from = length.end + 1;
-    let to = from + length.value;
-    if s.len() <= to {
-        return 0;
-    }
-    answer_day(out, &s[from..to], letters.value, seconds.value);
-    to + 1
-}
-
-// Answers a judge's case at the front, `judge TABLE LIMIT RULE WORD`, and gives its length; 0 where it is not whole.
-fn judge_case<W: Write>(out: &mut W, s: &[u8]) -> usize {
-    if s.len() < 6 {
-        return 0;
-    }
-    let table = number_at(s, 6);
-    if s.len() <= table.end {
-        return 0;
-    }
-    let limit = long_number_at(s, table.end + 1);
-    if s.len() <= limit.end {
-        return 0;
-    }
-    let used = judge_texts(out, &s[limit.end + 1..], table.value, limit.value);
-    if used == 0 {
-        return 0;
-    }
-    limit.end + 1 + used
-}
-
-// Answers the rest of a judge's case, `RULE WORD` and the two texts, and gives its length; 0 where it is not whole.
-fn judge_texts<W: Write>(out: &mut W, s: &[u8], table: usize, limit: u64) -> usize
-    ensures { result ≤ length s.now }
+// A text of this length, and what stands behind it.
+fn text_of(rest: &[u8], size: u64) -> Option<(&[u8], &[u8])>
+    ensures { IfSome result (λ r. length r.1.now ≤ length rest.now) }
 {
-    let rule = number_at(s, 0);
-    if s.len() <= rule.end {
-        return 0;
-    }
-    let word = number_at(s, rule.end + 1);
-    if s.len() <= word.end {
-        return 0;
-    }
-    let from = word.end + 1;
-    if s.len() - from <= rule.value {
-        return 0;
-    }
-    let middle = from + rule.value;
-    if s.len() - middle <= word.value {
-        return 0;
-    }
-    let to = middle + word.value;
-    answer_judge(out, &s[from..middle], &s[middle..to], table, limit);
-    to + 1
+    rest.split_at_checked(size as usize)
 }
 
-// Answers a row of numbers at the front, `numbers FIRST COUNT`, and gives its length; 0 where it is not whole, or where a number of it has over
-// 64 bits.
-fn numbers_case<W: Write>(out: &mut W, s: &[u8]) -> usize {
-    if s.len() < 8 {
-        return 0;
-    }
-    let first = long_number_at(s, 8);
-    let end = first.end;
-    if s.len() <= end {
-        return 0;
-    }
-    if s[end] != b' ' {
-        return 0;
-    }
-    let count = number_at(s, end + 1);
-    if s.len() - count.end < 2 {
-        return 0;
-    }
-    if count.value == 0 {
-        answer_numbers(out, first.value, 0);
-        return count.end + 2;
-    }
-    if MOST - first.value < (count.value as u64) - 1 {
-        return 0;
-    }
-    answer_numbers(out, first.value, count.value);
-    count.end + 2
+// Answers a rule's case at the front, `rule LEN`, and gives what stands behind it, if it is whole.
+fn rule_case<'a, W: Write>(out: &mut W, s: &'a [u8]) -> Option<&'a [u8]>
+    ensures { IfSome result (λ behind. length behind.now < length s.now) }
+{
+    let (size, rest) = number_of(s.get(5..)?, MOST);
+    let (text, rest) = text_of(rest.get(1..)?, size)?;
+    let behind = rest.get(1..)?;
+    answer_rule(out, text);
+    Some(behind)
 }
 
-// Answers the case at the front and gives its length; 0 where it is not whole.
-fn answer_case<W: Write>(out: &mut W, s: &[u8]) -> usize {
-    if s.len() == 0 {
-        return 0;
-    }
-    match s[0] {
+// Answers a day's case at the front, `day LETTERS SECONDS LEN`, and gives what stands behind it, if it is whole.
+fn day_case<'a, W: Write>(out: &mut W, s: &'a [u8]) -> Option<&'a [u8]>
+    ensures { IfSome result (λ behind. length behind.now < length s.now) }
+{
+    let (letters, rest) = number_of(s.get(4..)?, MOST);
+    let (seconds, rest) = next_number(rest, MOST)?;
+    let (size, rest) = next_number(rest, MOST)?;
+    let (file, rest) = text_of(rest.get(1..)?, size)?;
+    let behind = rest.get(1..)?;
+    answer_day(out, file, letters as usize, seconds as usize);
+    Some(behind)
+}
+
+// Answers a judge's case at the front, `judge TABLE LIMIT RULE WORD` and the two texts, and gives what stands behind it, if it is whole.
+fn judge_case<'a, W: Write>(out: &mut W, s: &'a [u8]) -> Option<&'a [u8]>
+    ensures { IfSome result (λ behind. length behind.now < length s.now) }
+{
+    let (table, rest) = number_of(s.get(6..)?, MOST);
+    let (limit, rest) = next_number(rest, u64::MAX)?;
+    let (rule_size, rest) = next_number(rest, MOST)?;
+    let (word_size, rest) = next_number(rest, MOST)?;
+    let (rule, rest) = text_of(rest.get(1..)?, rule_size)?;
+    let (word, rest) = text_of(rest, word_size)?;
+    let behind = rest.get(1..)?;
+    answer_judge(out, rule, word, table as usize, limit);
+    Some(behind)
+}
+
+// Answers a row of numbers at the front, `numbers FIRST COUNT`, and gives what stands behind it, if it is whole and no number of it has over 64
+// bits.
+fn numbers_case<'a, W: Write>(out: &mut W, s: &'a [u8]) -> Option<&'a [u8]>
+    ensures { IfSome result (λ behind. length behind.now < length s.now) }
+{
+    let (first, rest) = number_of(s.get(8..)?, u64::MAX);
+    let (count, rest) = number_of(rest.strip_prefix(b" ")?, MOST);
+    let behind = rest.get(2..)?;
+    first.checked_add(count.saturating_sub(1))?;
+    answer_numbers(out, first, count as usize);
+    Some(behind)
+}
+
+// Answers the case at the front, and gives what stands behind it, if it is whole. Four arms, as plain as a table of functions.
+fn answer_case<'a, W: Write>(out: &mut W, s: &'a [u8]) -> Option<&'a [u8]>
+    ensures { IfSome result (λ behind. length behind.now < length s.now) }
+{
+    match s.first()? {
         b'r' => rule_case(out, s),
         b'j' => judge_case(out, s),
         b'n' => numbers_case(out, s),
@@ -213,15 +114,8 @@ fn answer_case<W: Write>(out: &mut W, s: &[u8]) -> usize {
 
 // Answers the cases one after another, up to one that is not whole.
 pub fn answer_all<W: Write>(out: &mut W, s: &[u8]) {
-    let mut at = 0;
-    while at < s.len() {
-        let used = answer_case(out, &s[at..]);
-        if used == 0 {
-            return;
-        }
-        if s.len() - at < used {
-            return;
-        }
-        at += used;
+    let mut rest = s;
+    while let Some(behind) = answer_case(out, rest) {
+        rest = behind;
     }
 }

@@ -22,7 +22,8 @@ fn main(rt: HostRuntime) {
     cases::answer_all(&mut rt.stdout(), &space[..got]);
 }
 
-// Reads until the buffer is full, or the input ends or fails; answers how many bytes were read.
+// Reads until the buffer is full, or the input ends or fails; answers how many bytes were read. Each read says how far it came, so
+// no range counts them.
 fn read_full<R: Read>(reader: &mut R, buf: &mut [u8]) -> usize
     ensures { result ≤ length buf.new }
 {

@@ -8,10 +8,7 @@ pub fn print<W: Write>(out: &mut W, text: &[u8]) {
 
 // A number's digits.
 pub fn print_decimal<W: Write>(out: &mut W, x: u64) {
-    let digits = decimal::digits_of(x);
-    let bytes = digits.bytes;
-    let len = digits.len;
-    print(out, &bytes[..len]);
+    print(out, decimal::digits_of(x).as_slice());
 }
 
 // A number behind a sign.

@@ -1,9 +1,7 @@
 -- What a run of the program does to its input and its output. Assumes nothing.
-use Rattle.std.specs.Prelude.{ℕ, Option, ◌<◌, ◌≤◌, List, length, take}
+use Rattle.std.specs.Prelude.{ℕ, Option, Some, None, ◌<◌, ◌≤◌, List, length, take}
 use Rattle.std.specs.Io.KnownBytes.{Keeps, Consumes, Appends, IsAtEnd}
 use Rattle.job.specs.JobMeaning.{Writes}
-use Rattle.checker.specs.declared.Transfer.{Transfer}
-use Rattle.checker.specs.declared.Transfer.TheVariants.{Bytes, Failed}
 
 -- the job s is what the input gave: at most 2,809 bytes, and fewer only where it has no more
 pub record JobRead (before after : Option (List ℕ)) (s : List ℕ) : Type 0 where
@@ -21,6 +19,6 @@ pub record Listed (input_before input_after output_before output_after : Option 
   pub put : Appends output_before output_after (take n text)
 
 -- a run: where the input failed, nothing was written
-abbrev pub Ran : Option (List ℕ) → Option (List ℕ) → Option (List ℕ) → Option (List ℕ) → Transfer → Type 0
-Ran input_before input_after output_before output_after (Bytes n) = Listed input_before input_after output_before output_after n
-Ran input_before input_after output_before output_after Failed = Keeps output_before output_after
+abbrev pub Ran : Option (List ℕ) → Option (List ℕ) → Option (List ℕ) → Option (List ℕ) → Option ℕ → Type 0
+Ran input_before input_after output_before output_after (Some n) = Listed input_before input_after output_before output_after n
+Ran input_before input_after output_before output_after None = Keeps output_before output_after

@@ -2,6 +2,7 @@
 use Prim.Native.Nat.{ℕ, zero, suc, ◌+◌, ◌-◌, ◌≤◌, ◌<◌}
 use native.Mathlib.Omega.{arith}
 use mathlib.Core.Path.{◌≡◌, refl, sym, ap, ap₂, subst, ◌∙◌}
+use Rattle.std.specs.Prelude.{Option, Some, None}
 use mathlib.Core.Logic.{◌⊎◌, inl, inr}
 use mathlib.Core.Bool.{true, ◌||◌, or-true}
 use mathlib.Core.List.{List, [], ◌∷◌, ◌++◌, map}
@@ -13,21 +14,16 @@ use Rattle.event.proofs.Tests.{either, neither, choose}
 use Rattle.verdict.specs.Verdicts as verdict
 use Rattle.verdict.specs.declared.Verdict.{Verdict}
 use Rattle.day.specs.DayFile.{last_second, DayEvent, letter_of, second_of, LineAt, Lines, done, more, second_after}
-use Rattle.day.specs.DayLines.{LinesResult, stopped, events, front, judged, line_of, day_lines}
+use Rattle.day.specs.DayLines.{LinesResult, stopped, events, front, judged, line, line_of, day_lines}
 use Rattle.day.specs.DayAnswer.{DayAnswer, values, refusal, acceptance, refusal_verdict, told}
 use Rattle.day.specs.DayComputed.{day_events, ComesTo, answered, day_answer}
 use Rattle.day.specs.DayMeaning.{Whole, DayRefused, long_file, many_lines, malformed_line, wrong_second}
 use Rattle.day.specs.DayMeaning.{DayMeaning, file_refused, short_buffer, accepted}
 use Rattle.day.specs.declared.Refusal.{Refusal}
 use Rattle.day.specs.declared.Refusal.TheVariants as why
-use Rattle.day.specs.declared.line.LineRead.{LineRead}
-use Rattle.day.specs.declared.line.LineRead.TheVariants.{Formed, Malformed}
+use Rattle.day.specs.declared.line.Line.{Line}
 use Rattle.day.proofs.LineForm.{line_sound, line_found}
 use Rattle.day.proofs.Turns.{judged_line, turn_many, turn_end, turn_malformed, turn_wrong}
-
--- a line that is found, and none
-unlike : (x c size : ℕ) → Formed x c size ≡ Malformed → ⊥
-unlike x c size e = let n : ◌≡◌ {A = ℕ} 0 1 = cc in omega arith
 
 -- one of two tests for less passes
 pub less : {a b c d : ℕ} → (ltb a b ≡ true) ⊎ (ltb c d ≡ true) → (a < b) ⊎ (c < d)
@@ -96,15 +92,16 @@ stops_here bad left y s h g b =
     record { l = []; rest = s; good = done; begun = g; few = omega arith; place = omega arith; why = b }
 
 says_line : (left y : ℕ) (s : List ℕ) → left < 255 → 1 ≤ length s → ((x : ℕ) (t : List ℕ) → Says left x t (day_lines left x t))
-    → (r : LineRead) → line_of s ≡ r → Says (suc left) y s (judged (day_lines left) (255 - left) y s r)
-says_line left y s h g next Malformed q =
-    stops_here NoLine left y s h g (λ e after a. let f = line_found s e after a in unlike _ _ _ (sym f.1 ∙ q))
-says_line left y s h g next (Formed x c size) q =
+    → (r : Option Line) → line_of s ≡ r → Says (suc left) y s (judged (day_lines left) (255 - left) y s r)
+says_line left y s h g next None q =
+    stops_here NoLine left y s h g (λ e after a. let f = line_found s e after a in cc)
+says_line left y s h g next (Some l) q =
+    let x = l.second in
     choose (Says (suc left) y s) (ltb last_second x || ltb x y)
-    (λ f. stops_here BadSecond left y s h g (_, drop size s, line_sound s x c size q, less (either _ _ f)))
+    (λ f. stops_here BadSecond left y s h g (_, drop l.size s, line_sound s x l.letter l.size q, less (either _ _ f)))
     (λ f. let n = neither (ltb last_second x) (ltb x y) f in
-    says_front left y s (drop size s) _ (line_sound s x c size q) (ltb-false x y n.1) (ltb-false last_second x n.0)
-    (day_lines left x (drop size s)) (next x (drop size s)))
+    says_front left y s (drop l.size s) _ (line_sound s x l.letter l.size q) (ltb-false x y n.1) (ltb-false last_second x n.0)
+    (day_lines left x (drop l.size s)) (next x (drop l.size s)))
 
 says : (left y : ℕ) (s : List ℕ) → left ≤ 255 → Says left y s (day_lines left y s)
 unfolding day_lines
@@ -182,7 +179,7 @@ run {y} {s} (more {e = e} {l = l} h low high g) left =
     let n : suc (length l) + left ≡ suc (length l + left) = omega arith in
     let f = line_found s e _ h in
     let k = length l + left in
-    let j : judged (day_lines k) (255 - k) y s (Formed e.second e.letter f.0) ≡ front e (day_lines k e.second (drop f.0 s))
+    let j : judged (day_lines k) (255 - k) y s (Some (line e.second e.letter f.0)) ≡ front e (day_lines k e.second (drop f.0 s))
     = simp (le-ltb last_second e.second high, le-ltb e.second y low) in
     ap (λ (k : ℕ). day_lines k y s) n ∙ judged_line (length l + left) y s (has_bytes h)
     ∙ ap (judged (day_lines (length l + left)) (255 - (length l + left)) y s) f.1
@@ -196,12 +193,12 @@ run_all {s} {l} g h =
     let n : 255 ≡ length l + (255 - length l) = omega arith in
     ap (λ (k : ℕ). day_lines k 0 s) n ∙ run g (255 - length l)
 
-no_line_lem : (s : List ℕ) → ((e : DayEvent) (after : List ℕ) → LineAt s e after → ⊥) → line_of s ≡ Malformed
+no_line_lem : (s : List ℕ) → ((e : DayEvent) (after : List ℕ) → LineAt s e after → ⊥) → line_of s ≡ None
 no_line_lem s h = go (line_of s) refl
   where
-    go : (r : LineRead) → line_of s ≡ r → r ≡ Malformed
-    go Malformed e = refl
-    go (Formed x c size) e = absurd (h _ _ (line_sound s x c size e))
+    go : (r : Option Line) → line_of s ≡ r → r ≡ None
+    go None e = refl
+    go (Some l) e = absurd (h _ _ (line_sound s l.second l.letter l.size e))
 
 pub whole_lines : {s : List ℕ} {l : List DayEvent} → Lines 0 s l [] → length l ≤ 255 → day_lines 255 0 s ≡ events l
 whole_lines {s} {l} g h = run_all g h ∙ ap (prefixed l) (turn_end (255 - length l) (second_after 0 l)) ∙ prefixed_events l

@@ -2,6 +2,7 @@
 use Prim.Native.Nat.{ℕ, suc, ◌+◌, ◌-◌, ◌≤◌}
 use native.Mathlib.Omega.{arith}
 use mathlib.Core.Path.{◌≡◌, refl, sym, ap, ap₂, subst, ◌∙◌}
+use Rattle.std.specs.Prelude.{Some, None}
 use mathlib.Core.List.{List, [], ◌∷◌, ◌++◌, append_assoc}
 use mathlib.Core.Bool.{Bool, true, false, cond, ◌&&◌, or-true}
 use lib.Dec.{T, eqb, eqb→eq}
@@ -9,15 +10,14 @@ use lib.ListN.{length, get_or, take, drop, take-append-drop}
 use lib.Seq.{drop-drop, length-take-le, get_or-take, get_or-drop, get_or-append-add, take-append_seam, drop-append-add}
 use borrow.Author.Tests.{eq-eqb, eqb-true, le-leb}
 use Rattle.event.specs.Event.{is_event}
-use Rattle.event.specs.Leading.{leading}
 use Rattle.event.proofs.EventLaws.{event_apart}
-use Rattle.event.proofs.LeadingLaws.{leading_found}
+use Rattle.event.proofs.LeadingLaws.{leading_found, leading_up_to}
 use Rattle.event.proofs.Tails.{rest_at}
 use Rattle.event.proofs.Tests.{and_split, T_of, of_T}
 use Rattle.decimal.specs.Numeral.{is_digit, AllDigits, value_of}
 use Rattle.day.specs.DayFile.{event_tag, DayEvent, SecondNumeral, line_text, LineAt}
-use Rattle.day.specs.DayLines.{digit_count, is_second, is_line, line_with, line_of}
-use Rattle.day.specs.declared.line.LineRead.TheVariants.{Formed, Malformed}
+use Rattle.day.specs.DayLines.{digit_count, is_second, is_line, line, line_with, line_of}
+use Rattle.day.specs.declared.line.Line.{Line}
 use Rattle.day.proofs.LineLaws.{inside, counted_digits, second_is}
 
 -- ---- a line that is found has the form
@@ -42,14 +42,15 @@ six a b c d e f h =
     let v = and_split a b u.0 in
     (v.0, v.1, u.1, r.1, q.1, p.1)
 
-parts_with : (s : List ℕ) (d x c size : ℕ) → line_with d s ≡ Formed x c size → Parts s d x c size
+parts_with : (s : List ℕ) (d x c size : ℕ) → line_with d s ≡ Some (line x c size) → Parts s d x c size
 parts_with s d x c size e = go (is_line d s) refl e
   where
     go : (t : Bool) → is_line d s ≡ t
-        → cond t (Formed (value_of (take d (drop 2 s))) (get_or s (d + 2 + 1) 0) (d + 2 + 3)) Malformed ≡ Formed x c size → Parts s d x c size
-    go false f q = let n : ◌≡◌ {A = ℕ} 0 1 = cc in absurd (omega arith)
+        → cond t (Some (line (value_of (take d (drop 2 s))) (get_or s (d + 2 + 1) 0) (d + 2 + 3))) None ≡ Some (line x c size) → Parts s d x c size
+    go false f q = cc
     go true f q =
-        let l : get_or s (d + 2 + 1) 0 ≡ c = cc in
+        let r : line (value_of (take d (drop 2 s))) (get_or s (d + 2 + 1) 0) (d + 2 + 3) ≡ line x c size = cc in
+        let l = ap (λ (k : Line). k.letter) r in
         let p = six (eqb (get_or s 0 0) event_tag) (eqb (get_or s 1 0) 9) (is_second d (get_or s 2 0)) (eqb (get_or s (d + 2) 0) 9)
         (is_event (get_or s (d + 2 + 1) 0)) (eqb (get_or s (d + 2 + 2) 0) 10) (T_of (is_line d s) f) in
         record {
@@ -60,18 +61,18 @@ parts_with s d x c size e = go (is_line d s) refl e
           letter = l;
           event = subst (λ (b : ℕ). T (is_event b)) l p.4;
           newline = eqb→eq (get_or s (d + 2 + 2) 0) 10 p.5;
-          value = cc;
-          ends = cc;
+          value = ap (λ (k : Line). k.second) r;
+          ends = ap (λ (k : Line). k.size) r;
         }
 
-parts : (s : List ℕ) (x c size : ℕ) → line_of s ≡ Formed x c size → Parts s (digit_count (drop 2 s)) x c size
+parts : (s : List ℕ) (x c size : ℕ) → line_of s ≡ Some (line x c size) → Parts s (digit_count (drop 2 s)) x c size
 unfolding line_of
 parts s x c size e = parts_with s (digit_count (drop 2 s)) x c size e
 
 -- a line ends within the text
-pub line_within : (s : List ℕ) (x c size : ℕ) → line_of s ≡ Formed x c size → (1 ≤ size) × (size ≤ length s)
-line_within s x c size e =
-    let p = parts s x c size e in
+pub line_within : (s : List ℕ) (l : Line) → line_of s ≡ Some l → (1 ≤ l.size) × (l.size ≤ length s)
+line_within s l e =
+    let p = parts s l.second l.letter l.size e in
     let h = inside s (digit_count (drop 2 s) + 2 + 2) 9 p.newline in
     (omega (arith, p.ends), omega (arith, p.ends))
 
@@ -117,7 +118,7 @@ text_of s x c size p =
     ∙ ap (λ (t : List ℕ). 9 ∷ c ∷ t) (from_byte s (d + 2 + 2) size 9 p.newline (omega (arith, p.ends)))))
     ∙ sym (append_assoc (event_tag ∷ 9 ∷ ds) (9 ∷ c ∷ 10 ∷ []) (drop size s))
 
-pub line_sound : (s : List ℕ) (x c size : ℕ) → line_of s ≡ Formed x c size → LineAt s (record { second = x; letter = c }) (drop size s)
+pub line_sound : (s : List ℕ) (x c size : ℕ) → line_of s ≡ Some (line x c size) → LineAt s (record { second = x; letter = c }) (drop size s)
 line_sound s x c size e =
     let p = parts s x c size e in
     record {
@@ -129,9 +130,7 @@ line_sound s x c size e =
 
 -- ---- a line of the form is found
 count_run : (ds t : List ℕ) → AllDigits ds → digit_count (ds ++ 9 ∷ t) ≡ length ds
-unfolding leading
-count_run [] t a = refl
-count_run (b ∷ ds) t a = rw (of_T (is_digit b) a.0) (ap suc (count_run ds t a.1))
+count_run ds t a = leading_up_to is_digit AllDigits (λ b u h. (of_T (is_digit b) h.0, h.1)) 9 refl ds t a
 
 -- the n-th byte behind the digits
 behind : (ds t : List ℕ) (a b k n : ℕ) → k ≡ length ds + n + 2 → get_or (a ∷ b ∷ (ds ++ t)) k 0 ≡ get_or t n 0
@@ -148,7 +147,7 @@ can_be_second (b ∷ ds) t x h = go (eqb b 48) refl
     go false e = simp (e, le-leb 1 (suc (length ds)) h.numeral.some, le-leb (suc (length ds)) 5 h.few, or-true)
 
 found_in : (ds rest : List ℕ) (x c : ℕ) → SecondNumeral ds x → T (is_event c)
-    → line_of (event_tag ∷ 9 ∷ (ds ++ 9 ∷ c ∷ 10 ∷ rest)) ≡ Formed x c (length ds + 2 + 3)
+    → line_of (event_tag ∷ 9 ∷ (ds ++ 9 ∷ c ∷ 10 ∷ rest)) ≡ Some (line x c (length ds + 2 + 3))
 unfolding line_of
 found_in ds rest x c h v =
     let t : List ℕ = 9 ∷ c ∷ 10 ∷ rest in
@@ -163,10 +162,10 @@ found_in ds rest x c h v =
       behind ds t event_tag 9 (length ds + 2 + 2) 2 (omega arith),
     ) in
     ap (λ (d : ℕ). line_with d s) (count_run ds (c ∷ 10 ∷ rest) h.numeral.digits)
-    ∙ rw f (ap₂ (λ (y b : ℕ). Formed y b (length ds + 2 + 3)) u l)
+    ∙ rw f (ap₂ (λ (y b : ℕ). Some (line y b (length ds + 2 + 3))) u l)
 
 pub line_found : (s : List ℕ) (e : DayEvent) (rest : List ℕ) → LineAt s e rest
-    → (size : ℕ) × (line_of s ≡ Formed e.second e.letter size) × (drop size s ≡ rest)
+    → (size : ℕ) × (line_of s ≡ Some (line e.second e.letter size)) × (drop size s ≡ rest)
 line_found s e rest h =
     let ds = h.digits in
     let c = e.letter in

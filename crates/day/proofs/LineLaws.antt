@@ -1,45 +1,20 @@
--- Laws of one line: how its bytes are counted and its digits read, and the tests of its form. Assumes nothing.
-use Prim.Native.Nat.{ℕ, zero, suc, ◌+◌, ◌-◌, ◌*◌, ◌^◌, ◌≤◌, ◌<◌}
+-- Laws of one line: how its digits are counted, and the tests of its form. Assumes nothing.
+use Prim.Native.Nat.{ℕ, suc, ◌+◌, ◌-◌, ◌≤◌, ◌<◌}
 use native.Mathlib.Omega.{arith}
 use native.Mathlib.Decide.{dec_lt}
-use native.Mathlib.Numerals.{add-one}
 use mathlib.Core.Path.{◌≡◌, refl, sym, ap, ap₂, subst, ◌∙◌}
 use mathlib.Core.Logic.{◌⊎◌, inl, inr}
+use Rattle.std.specs.Prelude.{Some, None}
 use mathlib.Core.List.{List, [], ◌∷◌}
-use mathlib.Core.Bool.{Bool, true, false, cond, not, ◌&&◌}
+use mathlib.Core.Bool.{Bool, true, false, not, ◌&&◌}
 use lib.Dec.{T, leb, eqb, leb→le, eqb→eq}
 use borrow.Author.Tests.{eq-eqb, ne_eqb, not-false}
 use lib.ListN.{length, get_or, take, drop, length-take, length-drop, get_or-eq_default}
 use Rattle.event.proofs.Tests.{and_split, or_split, T_of}
-use Rattle.event.specs.Leading.{leading}
-use Rattle.event.proofs.LeadingLaws.{leading_found}
-use Rattle.event.proofs.Tails.{tail, tail_is, rest_at}
-use Rattle.decimal.specs.Numeral.{is_digit, AllDigits, value_from, value_of}
-use Rattle.decimal.proofs.NumeralLaws.{digit_between}
-use Rattle.day.specs.DayLines.{digit_count, is_second, is_line, line_with, line_of}
-use Rattle.day.specs.declared.line.LineRead.TheVariants.{Formed, Malformed}
-
--- ---- the number that digits write
-pub digit_at : (s : List ℕ) (i : ℕ) → i < length s → AllDigits (drop i s) → (48 ≤ get_or s i 0) × (get_or s i 0 ≤ 57)
-digit_at s i h a = digit_between (get_or s i 0) (subst AllDigits (rest_at s i h) a).0
-
-pub digits_on : (s : List ℕ) (i : ℕ) → i < length s → AllDigits (drop i s) → AllDigits (drop (i + 1) s)
-digits_on s i h a = (subst AllDigits (rest_at s i h) a).1
-
-pub value_on : (s : List ℕ) (i x : ℕ) → i < length s → value_from x (drop i s) ≡ value_from (x * 10 + (get_or s i 0 - 48)) (drop (i + 1) s)
-value_on s i x h = ap (value_from x) (rest_at s i h)
-
--- a number of i digits stays below ten to the i
-pub ten_more : (x i d : ℕ) → x < 10 ^ i → d ≤ 9 → x * 10 + d < 10 ^ (i + 1)
-ten_more x i d h g = subst (λ (k : ℕ). x * 10 + d < 10 ^ k) (sym (add-one i)) (omega arith)
-
-pub ten_few : (i : ℕ) → i < 5 → 10 ^ i ≤ 10000
-ten_few zero h = omega arith
-ten_few (suc zero) h = omega arith
-ten_few (suc (suc zero)) h = omega arith
-ten_few (suc (suc (suc zero))) h = omega arith
-ten_few (suc (suc (suc (suc zero)))) h = omega arith
-ten_few (suc (suc (suc (suc (suc i))))) h = absurd (omega arith)
+use Rattle.event.proofs.LeadingLaws.{leading_prefix, leading_found, leading_pass, leading_stop}
+use Rattle.event.proofs.Tails.{tail, tail_is}
+use Rattle.decimal.specs.Numeral.{is_digit, AllDigits, value_of}
+use Rattle.day.specs.DayLines.{digit_count, is_second, is_line, line, line_with, line_of}
 
 -- ---- the tests of a line, as the code makes them one after another
 -- the byte x that was read is tested for b
@@ -62,13 +37,12 @@ inside s i b e = go (dec_lt i (length s))
     go (no h) = let z = get_or-eq_default s 0 {n = i} (omega arith) in absurd (omega arith)
 
 pub counted_digits : (s : List ℕ) → AllDigits (take (digit_count s) s)
-unfolding leading
-counted_digits [] = tt
+counted_digits [] = rw (leading_prefix is_digit []) tt
 counted_digits (b ∷ s) = go (is_digit b) refl (counted_digits s)
   where
-    go : (t : Bool) → is_digit b ≡ t → AllDigits (take (digit_count s) s) → AllDigits (take (cond t (suc (digit_count s)) 0) (b ∷ s))
-    go true e a = (T_of (is_digit b) e, a)
-    go false e a = tt
+    go : (t : Bool) → is_digit b ≡ t → AllDigits (take (digit_count s) s) → AllDigits (take (digit_count (b ∷ s)) (b ∷ s))
+    go true e a = rw (leading_pass is_digit b s e) (T_of (is_digit b) e, a)
+    go false e a = rw (leading_stop is_digit b s e) tt
 
 -- so many digits as a second can have; a leading 0 stands alone
 pub second_is : (d b : ℕ) → T (is_second d b) → (1 ≤ d) × (d ≤ 5) × (b ≡ 48 → d ≡ 1)
@@ -89,18 +63,18 @@ module _ (s : List ℕ) (d : ℕ) (counted : d ≡ digit_count (tail 2 s)) where
   count_is = counted ∙ ap digit_count (tail_is 2 s)
 
   -- a test that fails
-  pub not_line : is_line d s ≡ false → Malformed ≡ line_of s
+  pub not_line : is_line d s ≡ false → None ≡ line_of s
   unfolding line_of
-  not_line f = subst (λ (k : ℕ). Malformed ≡ line_with k s) count_is (rw f)
+  not_line f = subst (λ (k : ℕ). None ≡ line_with k s) count_is (rw f)
 
   -- all tests passed
   pub is_line_lem : (x b : ℕ) → x ≡ value_of (take (d + 2 - 2) (drop 2 s)) → b ≡ get_or s (d + 2 + 1) 0 → is_line d s ≡ true
-      → Formed x b (d + 2 + 3) ≡ line_of s
+      → Some (line x b (d + 2 + 3)) ≡ line_of s
   unfolding line_of
   is_line_lem x b v l t =
       let n : d + 2 - 2 ≡ d = omega arith in
       let w : x ≡ value_of (take d (drop 2 s)) = v ∙ ap (λ (k : ℕ). value_of (take k (drop 2 s))) n in
-      subst (λ (k : ℕ). Formed x b (d + 2 + 3) ≡ line_with k s) count_is (rw t (ap₂ (λ (y c : ℕ). Formed y c (d + 2 + 3)) w l))
+      subst (λ (k : ℕ). Some (line x b (d + 2 + 3)) ≡ line_with k s) count_is (rw t (ap₂ (λ (y c : ℕ). Some (line y c (d + 2 + 3))) w l))
 
   pub count_fits : 2 ≤ length s → d + 2 ≤ length s
   count_fits h = let w = (leading_found is_digit (drop 2 s)).within in omega (arith, count_is, length-drop 2 s)

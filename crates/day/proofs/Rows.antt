@@ -3,6 +3,7 @@ use Prim.Native.Nat.{ℕ, ◌≤◌}
 use native.Mathlib.Omega.{arith}
 use mathlib.Core.Path.{◌≡◌, refl, sym, ap, ◌∙◌}
 use mathlib.Core.Bool.{◌||◌}
+use Rattle.std.specs.Prelude.{Ok, Err}
 use mathlib.Core.List.{List, map}
 use lib.Dec.{ltb}
 use lib.ListN.{length, take, drop, length-map}
@@ -16,7 +17,6 @@ use Rattle.day.specs.DayLines.{LinesResult, stopped, events}
 use Rattle.day.specs.DayAnswer.{DayAnswer, refusal_verdict, acceptance, day_values}
 use Rattle.day.specs.DayComputed.{day_events, ComesTo, answered, day_answer}
 use Rattle.day.specs.DayMeaning.{DayMeaning, DayRefused, file_refused, short_buffer, accepted}
-use Rattle.day.specs.declared.Outcome.TheVariants.{Accepted, Refused}
 use Rattle.day.specs.declared.Refusal.{Refusal}
 use Rattle.day.specs.declared.Refusal.TheVariants.{LongFile, Malformed, WrongSecond, ManyLines, ShortBuffer}
 use Rattle.day.proofs.Answered.{read_refused, answer_of_lem, events_read}
@@ -66,7 +66,7 @@ pub record Holds (s : List ℕ) (n : ℕ) (ls ss : List ℕ) : Type 0 where
 
 module _ (s us vs ls ss : List ℕ) where
   -- where the buffers have room for every day, the refusal is the file's
-  pub refuses : {r : Refusal} → (255 ≤ length us) × (255 ≤ length vs) → day_values (Refused r) ls ss ≡ day_answer s us vs → Refuses s r
+  pub refuses : {r : Refusal} → (255 ≤ length us) × (255 ≤ length vs) → day_values (Err r) ls ss ≡ day_answer s us vs → Refuses s r
   refuses {r} room e = go (day_events s) refl (events_read s)
     where
       go : (d : LinesResult) → day_events s ≡ d → ComesTo s d → Refuses s r
@@ -78,13 +78,13 @@ module _ (s us vs ls ss : List ℕ) where
           absurd ((in_row r).number (number_is (e ∙ sym (answer_of_lem s us vs (events l) q) ∙ f)))
 
   -- an acceptance has stored the file's events
-  pub holds : {n : ℕ} → day_values (Accepted n) ls ss ≡ day_answer s us vs → Holds s n ls ss
+  pub holds : {n : ℕ} → day_values (Ok n) ls ss ≡ day_answer s us vs → Holds s n ls ss
   holds {n} e = go (day_events s) refl (events_read s)
     where
       go : (d : LinesResult) → day_events s ≡ d → ComesTo s d → Holds s n ls ss
       go (stopped w) q m = absurd ((in_row w).number (sym (number_is (e ∙ sym (answer_of_lem s us vs (stopped w) q)))))
       go (events l) q m =
-          choose (λ (a : DayAnswer). day_values (Accepted n) ls ss ≡ a → Holds s n ls ss) (ltb (length us) (length l) || ltb (length vs) (length l))
+          choose (λ (a : DayAnswer). day_values (Ok n) ls ss ≡ a → Holds s n ls ss) (ltb (length us) (length l) || ltb (length vs) (length l))
           (λ f g. absurd (let z = number_is g in omega arith))
           (λ f g.
           let many : n ≡ length l = ap (λ (a : DayAnswer). a.n) g in

@@ -1,10 +1,9 @@
 -- The values of the day reader's answers, with what stands in the two buffers, by document 01. Assumes nothing.
-use Rattle.std.specs.Prelude.{ℕ, List, ◌++◌, map, length, drop}
+use Rattle.std.specs.Prelude.{ℕ, List, ◌++◌, map, length, drop, Result, Ok, Err}
+use Rattle.std.specs.Result.{result_unwrap_or}
 use Rattle.day.specs.DayFile.{DayEvent, letter_of, second_of}
 use Rattle.verdict.specs.Verdicts as verdict
 use Rattle.verdict.specs.declared.Verdict.{Verdict}
-use Rattle.day.specs.declared.Outcome.{Outcome}
-use Rattle.day.specs.declared.Outcome.TheVariants as outcome
 use Rattle.day.specs.declared.Refusal.{Refusal}
 use Rattle.day.specs.declared.Refusal.TheVariants as why
 
@@ -39,9 +38,9 @@ refusal_verdict why.ManyLines = verdict.refused 14 256
 refusal_verdict why.ShortBuffer = verdict.refused 15 0
 
 -- number, place, found and count of what the code answers
-abbrev pub outcome_verdict : Outcome → Verdict
-outcome_verdict (outcome.Accepted n) = verdict.accepted 0 0
-outcome_verdict (outcome.Refused r) = refusal_verdict r
+abbrev pub outcome_verdict : Result ℕ Refusal → Verdict
+outcome_verdict (Ok n) = verdict.accepted 0 0
+outcome_verdict (Err r) = refusal_verdict r
 
 -- a verdict, with n and the two buffers
 abbrev pub told : Verdict → ℕ → List ℕ → List ℕ → DayAnswer
@@ -49,10 +48,9 @@ told v n ls ss =
     record { number = v.number; place = v.place; found = v.found; count = v.count; n = n; letters = ls; seconds = ss }
 
 -- n of what the code answers
-abbrev pub event_count : Outcome → ℕ
-event_count (outcome.Accepted n) = n
-event_count (outcome.Refused r) = 0
+abbrev pub event_count : Result ℕ Refusal → ℕ
+event_count o = result_unwrap_or o 0
 
 -- the values of what the code answers, with the two buffers at exit
-abbrev pub day_values : Outcome → List ℕ → List ℕ → DayAnswer
+abbrev pub day_values : Result ℕ Refusal → List ℕ → List ℕ → DayAnswer
 day_values o ls ss = told (outcome_verdict o) (event_count o) ls ss

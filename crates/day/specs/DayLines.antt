@@ -1,16 +1,13 @@
 -- The lines of a day file, computed. Assumes nothing.
 -- That they are those of `LineAt` and `Lines` is `line_sound`, `line_found` in proofs/LineForm, `good_lines`, `whole_lines` in proofs/Answered.
-use Rattle.std.specs.Prelude.{ℕ, zero, suc, ◌+◌, ◌-◌, Bool, cond, not, ◌&&◌, ◌||◌, List, [], ◌∷◌, leb, ltb, eqb, length, get_or, take, drop}
+use Rattle.std.specs.Prelude.{ℕ, zero, suc, ◌+◌, ◌-◌, Bool, cond, not, ◌&&◌, ◌||◌, List, [], ◌∷◌, leb, ltb, eqb, length, get_or, take, drop, Option, Some, None, Result, Ok, Err}
 use Rattle.event.specs.Event.{is_event}
 use Rattle.event.specs.Leading.{leading}
 use Rattle.decimal.specs.Numeral.{is_digit, value_of}
 use Rattle.day.specs.DayFile.{last_second, event_tag, DayEvent}
 use Rattle.day.specs.declared.Refusal.{Refusal}
 use Rattle.day.specs.declared.Refusal.TheVariants as why
-use Rattle.day.specs.declared.line.LineRead.{LineRead}
-use Rattle.day.specs.declared.line.LineRead.TheVariants.{Formed, Malformed}
-use Rattle.day.specs.declared.passes.Checked.{Checked}
-use Rattle.day.specs.declared.passes.Checked.TheVariants.{Good, Bad}
+use Rattle.day.specs.declared.line.Line.{Line}
 
 -- how many digits stand at the front
 abbrev pub digit_count : List ℕ → ℕ
@@ -26,11 +23,15 @@ is_line d s =
     eqb (get_or s 0 0) event_tag && eqb (get_or s 1 0) 9 && is_second d (get_or s 2 0)
     && eqb (get_or s (d + 2) 0) 9 && is_event (get_or s (d + 2 + 1) 0) && eqb (get_or s (d + 2 + 2) 0) 10
 
--- the line at the front: its second, its letter and its length
-abbrev pub line_with : ℕ → List ℕ → LineRead
-line_with d s = cond (is_line d s) (Formed (value_of (take d (drop 2 s))) (get_or s (d + 2 + 1) 0) (d + 2 + 3)) Malformed
+-- a line that is read: its second, its letter and its length
+abbrev pub line : ℕ → ℕ → ℕ → Line
+line second letter size = record { second = second; letter = letter; size = size }
 
-unfoldable pub line_of : List ℕ → LineRead
+-- the line at the front
+abbrev pub line_with : ℕ → List ℕ → Option Line
+line_with d s = cond (is_line d s) (Some (line (value_of (take d (drop 2 s))) (get_or s (d + 2 + 1) 0) (d + 2 + 3))) None
+
+unfoldable pub line_of : List ℕ → Option Line
 line_of s = line_with (digit_count (drop 2 s)) s
 
 -- what the lines of a file come to: refused at a line, or the events in line order
@@ -43,10 +44,11 @@ front e (stopped r) = stopped r
 front e (events l) = events (e ∷ l)
 
 -- line p at the front of s, after a line of the second y; `next` judges what follows
-abbrev pub judged : (ℕ → List ℕ → LinesResult) → ℕ → ℕ → List ℕ → LineRead → LinesResult
-judged next p y s Malformed = stopped (why.Malformed p)
-judged next p y s (Formed x c size) =
-    cond (ltb last_second x || ltb x y) (stopped (why.WrongSecond p)) (front (record { second = x; letter = c }) (next x (drop size s)))
+abbrev pub judged : (ℕ → List ℕ → LinesResult) → ℕ → ℕ → List ℕ → Option Line → LinesResult
+judged next p y s None = stopped (why.Malformed p)
+judged next p y s (Some l) =
+    cond (ltb last_second l.second || ltb l.second y) (stopped (why.WrongSecond p))
+    (front (record { second = l.second; letter = l.letter }) (next l.second (drop l.size s)))
 
 -- the lines of s, after a line of the second y; at most so many may still come, of 255 in all
 unfoldable pub day_lines : ℕ → ℕ → List ℕ → LinesResult
@@ -56,14 +58,14 @@ day_lines (suc left) y [] = events []
 day_lines (suc left) y (b ∷ s) = judged (day_lines left) (255 - left) y (b ∷ s) (line_of (b ∷ s))
 
 -- what the first pass finds where n lines came before
-abbrev pub checked : ℕ → LinesResult → Checked
-checked n (stopped r) = Bad r
-checked n (events l) = Good (n + length l)
+abbrev pub checked : ℕ → LinesResult → Result ℕ Refusal
+checked n (stopped r) = Err r
+checked n (events l) = Ok (n + length l)
 
 -- the events of the first n lines, as far as they are of the form
-abbrev pub with_line : (List ℕ → List DayEvent) → List ℕ → LineRead → List DayEvent
-with_line next s Malformed = []
-with_line next s (Formed x c size) = record { second = x; letter = c } ∷ next (drop size s)
+abbrev pub with_line : (List ℕ → List DayEvent) → List ℕ → Option Line → List DayEvent
+with_line next s None = []
+with_line next s (Some l) = record { second = l.second; letter = l.letter } ∷ next (drop l.size s)
 
 unfoldable pub events_of : ℕ → List ℕ → List DayEvent
 events_of zero s = []

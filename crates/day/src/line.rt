@@ -13,11 +13,12 @@ const TAB: u8 = b'\t';
 
 const NEWLINE: u8 = b'\n';
 
-// What stands at the front of an unread text: a line of the form, with its second, its letter and its length, or none.
+// A line of the form: its second, its letter, and how many bytes it has.
 #[derive(Clone, Copy)]
-pub enum LineRead {
-    Formed(u32, u8, usize),
-    Malformed,
+pub struct Line {
+    pub second: u32,
+    pub letter: u8,
+    pub size: usize,
 }
 
 fn is_digit(b: u8) -> bool
@@ -27,30 +28,18 @@ fn is_digit(b: u8) -> bool
 }
 
 // How many digits stand at the front.
+#[tactic(auto, unfolding(event::specs::Leading::leading))]
 fn count_digits(s: &[u8]) -> usize
     ensures { result ≡ digit_count s.now }
 {
-    let mut i = 0;
-    while i < s.len() {
-        if !is_digit(s[i]) {
-            return i;
-        }
-        i += 1;
-    }
-    i
+    s.iter().take_while(|b| is_digit(**b)).count()
 }
 
 // Whether so many digits, of which this is the first, can be a second.
 fn is_second(count: usize, first: u8) -> bool
     ensures { result ≡ is_second count first }
 {
-    if count == 1 {
-        return true;
-    }
-    if first == b'0' {
-        return false;
-    }
-    1 <= count && count <= 5
+    count == 1 || (first != b'0' && 1 <= count && count <= 5)
 }
 
 // The number that a few digits write.
@@ -59,38 +48,40 @@ fn value_of(digits: &[u8]) -> u32
     ensures { result ≡ value_of digits.now }
 {
     let mut x: u32 = 0;
-    let mut i = 0;
-    while i < digits.len() {
-        x = x * 10 + ((digits[i] - b'0') as u32);
-        i += 1;
+    for digit in digits {
+        x = x * 10 + u32::from(*digit - b'0');
     }
     x
 }
 
-// Reads the line at the front of the unread text.
-pub fn read_line(s: &[u8]) -> LineRead
+// Reads the line at the front of the unread text, if one of the form stands there.
+pub fn read_line(s: &[u8]) -> Option<Line>
     ensures { result ≡ line_of s.now }
 {
     if byte_at(s, 0) != EVENT_TAG {
-        return LineRead::Malformed;
+        return None;
     }
     if byte_at(s, 1) != TAB {
-        return LineRead::Malformed;
+        return None;
     }
     let count = count_digits(&s[2..]);
     if !is_second(count, byte_at(s, 2)) {
-        return LineRead::Malformed;
+        return None;
     }
     let end = count + 2;
     if byte_at(s, end) != TAB {
-        return LineRead::Malformed;
+        return None;
     }
     let letter = byte_at(s, end + 1);
     if !is_event(letter) {
-        return LineRead::Malformed;
+        return None;
     }
     if byte_at(s, end + 2) != NEWLINE {
-        return LineRead::Malformed;
+        return None;
     }
-    LineRead::Formed(value_of(&s[2..end]), letter, end + 3)
+    Some(Line {
+        second: value_of(&s[2..end]),
+        letter,
+        size: end + 3,
+    })
 }

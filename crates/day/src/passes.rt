@@ -5,67 +5,48 @@ ghost use Rattle.day.specs.DayFile.{letter_of, second_of};
 ghost use Rattle.day.specs.DayLines.{checked, day_lines, events_of};
 
 use crate::Refusal;
-use crate::line::{LineRead, read_line};
+use crate::line::read_line;
 
 // The last second of any day, that of a 25th hour, and how many lines a day has at most.
 const LAST_SECOND: u32 = 89999;
 
 const MOST_LINES: usize = 255;
 
-// What the first pass finds: the number of good lines, or the first refusal.
-#[derive(Clone, Copy)]
-pub enum Checked {
-    Good(usize),
-    Bad(Refusal),
-}
-
-// Judges the lines one after another.
-pub fn check_lines(file: &[u8]) -> Checked
+// Judges the lines one after another, and counts them.
+#[tactic(auto, using(crate::proofs::LineForm::line_within))]
+pub fn check_lines(file: &[u8]) -> Result<usize, Refusal>
     ensures { result ≡ checked 0 (day_lines 255 0 file.now) }
 {
-    let mut at = 0;
+    let mut rest = file;
     let mut n = 0;
     let mut last = 0;
-    while at < file.len() {
+    while !rest.is_empty() {
         if n == MOST_LINES {
-            return Checked::Bad(Refusal::ManyLines);
+            return Err(Refusal::ManyLines);
         }
-        match read_line(&file[at..]) {
-            LineRead::Malformed => {
-                return Checked::Bad(Refusal::Malformed(n + 1));
-            }
-            LineRead::Formed(second, letter, size) => {
-                if LAST_SECOND < second || second < last {
-                    return Checked::Bad(Refusal::WrongSecond(n + 1));
-                }
-                last = second;
-                at += size;
-            }
+        let line = read_line(rest).ok_or(Refusal::Malformed(n + 1))?;
+        if LAST_SECOND < line.second || line.second < last {
+            return Err(Refusal::WrongSecond(n + 1));
         }
+        last = line.second;
+        rest = &rest[line.size..];
         n += 1;
     }
-    Checked::Good(n)
+    Ok(n)
 }
 
 // Stores the events of the first n lines, all of the form.
+#[tactic(auto, using(crate::proofs::LineForm::line_within))]
 pub fn fill(file: &[u8], n: usize, letters: &mut [u8], seconds: &mut [u32])
     requires { (n ≤ length letters.old) × (n ≤ length seconds.old) × (length (events_of n file.now) ≡ n) }
     ensures letters_after { letters.new ≡ sets letters.old 0 (map letter_of (events_of n file.now)) }
     ensures seconds_after { seconds.new ≡ sets seconds.old 0 (map second_of (events_of n file.now)) }
 {
-    let mut at = 0;
-    let mut i = 0;
-    while i < n {
-        match read_line(&file[at..]) {
-            LineRead::Malformed => {
-                return;
-            }
-            LineRead::Formed(second, letter, size) => {
-                letters[i] = letter;
-                seconds[i] = second;
-                at += size;
-            }
-        }
-        i += 1;
+    let mut rest = file;
+    for i in 0..n {
+        let line = read_line(rest).unwrap();
+        letters[i] = line.letter;
+        seconds[i] = line.second;
+        rest = &rest[line.size..];
     }
 }

@@ -1,7 +1,7 @@
 // Numbers as decimal text.
 #![tactic(auto)]
 
-ghost use Rattle.std.specs.Prelude.{◌≡◌, ◌++◌, ◌+◌, ◌-◌, ◌/◌, ◌%◌, ◌<◌, length, take, replicate};
+ghost use Rattle.std.specs.Prelude.{◌≡◌, ◌++◌, ◌+◌, ◌-◌, ◌/◌, ◌%◌, ◌<◌, ◌≤◌, length, take, replicate};
 ghost use Rattle.decimal.specs.Numeral.{Numeral};
 ghost use Rattle.decimal.specs.Decimal.{decimal};
 ghost use Rattle.decimal.specs.Powers.{Powers};
@@ -33,11 +33,21 @@ const POWERS: [u64; MOST_DIGITS] = [
     10000000000000000000,
 ];
 
-// A number's digits: the first `len` of the bytes; the others are 0.
+// A number's digits: the first `len` of the bytes; the others are 0. There is no heap, so the room is fixed.
 #[derive(Clone, Copy)]
 pub struct Digits {
     pub bytes: [u8; MOST_DIGITS],
     pub len: usize,
+    ghost within: { len ≤ 20 },
+}
+
+impl Digits {
+    // The digits alone.
+    pub fn as_slice(&self) -> &[u8]
+        ensures { result.now ≡ take self.now.len self.now.bytes }
+    {
+        &self.bytes[..self.len]
+    }
 }
 
 // One digit of a number, and what is left of the number behind it.
@@ -59,14 +69,11 @@ pub fn width(x: u64) -> usize
     ensures { result ≡ length (decimal x) }
 {
     let powers = powers_of_ten();
-    let mut n: usize = 1;
-    while n < MOST_DIGITS && powers[n] <= x {
-        n += 1;
-    }
-    n
+    1 + powers[1..].iter().take_while(|power| **power <= x).count()
 }
 
-// The digit of x at a power of ten, where x is below ten times the power: how often the power can be subtracted.
+// The digit of x at a power of ten, where x is below ten times the power: how often the power can be subtracted: no number
+// is divided.
 fn digit_step(x: u64, power: u64) -> Step
     requires { (0 < power) × (x / power < 10) }
     ensures { (result.digit ≡ 48 + x / power) × (result.rest ≡ x % power) }
@@ -77,10 +84,7 @@ fn digit_step(x: u64, power: u64) -> Step
         rest -= power;
         digit += 1;
     }
-    Step {
-        digit: digit,
-        rest: rest,
-    }
+    Step { digit, rest }
 }
 
 // The digits of x, without leading zeros.
@@ -90,18 +94,15 @@ pub fn digits_of(x: u64) -> Digits
 {
     let powers = powers_of_ten();
     let len = width(x);
-    let mut digits = Digits {
-        bytes: [0u8; MOST_DIGITS],
-        len: len,
-    };
-    let mut rest = x;
     let last = len - 1;
+    let mut bytes = [0u8; MOST_DIGITS];
+    let mut rest = x;
     for i in 0..last {
         let step = digit_step(rest, powers[last - i]);
-        digits.bytes[i] = step.digit;
+        bytes[i] = step.digit;
         rest = step.rest;
     }
     // what is left is below ten
-    digits.bytes[last] = b'0' + (rest as u8);
-    digits
+    bytes[last] = b'0' + (rest as u8);
+    Digits { bytes, len }
 }

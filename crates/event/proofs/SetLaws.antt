@@ -11,6 +11,7 @@ use lib.ListN.{length, get_or, drop, drop_of_length-le}
 use lib.Pow.{pow-lt}
 use borrow.Author.Tests.{le-leb, lt-leb, lt-ltb, le-ltb, eq-eqb, ne_eqb}
 use Rattle.bits.specs.Bit.{has_bit}
+use Rattle.std.specs.Prelude.{Option, None, Some}
 use Rattle.bits.specs.Runs.{First}
 use Rattle.bits.proofs.Digits.{has_or, power_has, power_lacks, zero_has, mask_has, same_or_not, below_or_not}
 use Rattle.event.specs.Event.{is_event, Events}
@@ -70,28 +71,6 @@ index_letter i h =
 -- two letters with one index are one
 pub index_apart : (b x : ℕ) → T (is_event b) → T (is_event x) → (x ≡ b → ⊥) → letter_index x ≡ letter_index b → ⊥
 index_apart b x h g n e = n (sym (letter_index_lem x g).1 ∙ ap letter_at e ∙ (letter_index_lem b h).1)
-
--- the bit of a letter, by its run; a byte that is no letter has none
-pub capital_bounds : (b : ℕ) → is_event b ≡ true → b ≤ 90 → 65 ≤ b
-capital_bounds b e h = ⊎_elim (λ x. x.0) (λ x. absurd (omega (arith, x))) (runs b (T_of (is_event b) e))
-
-pub small_bounds : (b : ℕ) → is_event b ≡ true → 90 < b → (97 ≤ b) × (b ≤ 122)
-small_bounds b e h = ⊎_elim (λ x. absurd (omega (arith, x))) (λ x. x) (runs b (T_of (is_event b) e))
-
-pub capital_bit : (b : ℕ) → is_event b ≡ true → b ≤ 90 → 2 ^ (b - 65) ≡ bit_of b
-unfolding bit_of
-capital_bit b e h = rw (e, capital_index b h)
-
-pub small_bit : (b : ℕ) → is_event b ≡ true → 90 < b → 2 ^ (b - 97 + 26) ≡ bit_of b
-unfolding bit_of
-small_bit b e h =
-    let n = small_bounds b e h in
-    let z : b - 97 + 26 ≡ b - 71 = omega arith in
-    rw (e, small_index b h, z)
-
-pub foreign_bit : (b : ℕ) → is_event b ≡ false → 0 ≡ bit_of b
-unfolding bit_of
-foreign_bit b e = rw e
 
 -- ---- what each set holds
 pub holds_event : (c : LetterSet) (x : ℕ) → T (holds c x) → T (is_event x)
@@ -171,8 +150,9 @@ unfolding gathered
 gathered_end s i c h = ap (gathered c) (drop_of_length-le s h)
 
 -- ---- the next index that a set has
-pub next_found : (c : LetterSet) (i r x : ℕ) → i ≤ 52 → x ≡ 2 ^ i - 1 → First c.bits x r → NextIndex c i r
-next_found c i r x h e f =
+pub next_found : (c : LetterSet) (i x : ℕ) (found : Option ℕ) → i ≤ 52 → x ≡ 2 ^ i - 1 → First c.bits x found → NextIndex c i found
+next_found c i x None h e f = λ j l g b. false≢true (sym (ap (has_bit j) e ∙ mask_has j i ∙ le-ltb j i l) ∙ f j g b)
+next_found c i x (Some r) h e f =
     record {
       from = ⊎_elim (λ (l : r < i). absurd (early l)) (λ l. l) (below_or_not r i);
       within = f.within;
@@ -181,4 +161,4 @@ next_found c i r x h e f =
     }
   where
     early : r < i → ⊥
-    early l = false≢true (sym (f.fresh (omega arith)) ∙ ap (has_bit r) e ∙ mask_has r i ∙ lt-ltb r i l)
+    early l = false≢true (sym f.fresh ∙ ap (has_bit r) e ∙ mask_has r i ∙ lt-ltb r i l)

@@ -8,12 +8,9 @@ ghost use Rattle.std.specs.Prelude.{◌≡◌};
 ghost use Rattle.event.specs.Event.{is_event};
 
 // Whether a byte is an event.
+#[tactic(auto, unfolding(crate::specs::Event::is_event))]
 pub fn is_event(b: u8) -> bool
     ensures { result ≡ is_event b }
 {
-    match b {
-        b'A'..=b'Z' => true,
-        b'a'..=b'z' => true,
-        _ => false,
-    }
+    matches!(b, b'A'..=b'Z' | b'a'..=b'z')
 }

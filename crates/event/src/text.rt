@@ -7,19 +7,13 @@ ghost use Rattle.event.specs.Text.{not_newline};
 pub fn byte_at(s: &[u8], i: usize) -> u8
     ensures { result ≡ get_or s.now i 0 }
 {
-    if i < s.len() { s[i] } else { 0 }
+    s.get(i).copied().unwrap_or(0)
 }
 
-// The offset of the first newline, or the length where there is none.
+// The offset of the first newline, or the length where there is none: a number, as docs/PROMISES.md names it.
+#[tactic(auto, unfolding(crate::specs::Leading::leading))]
 pub fn find_newline(s: &[u8]) -> usize
     ensures { result ≡ leading not_newline s.now }
 {
-    let mut i = 0;
-    while i < s.len() {
-        if s[i] == b'\n' {
-            return i;
-        }
-        i += 1;
-    }
-    i
+    s.iter().take_while(|b| **b != b'\n').count()
 }

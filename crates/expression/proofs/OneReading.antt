@@ -10,9 +10,8 @@ use Rattle.expression.specs.Parse.{alt, measure}
 use Rattle.expression.specs.TreeOf.{stacked, top, tree_of}
 use Rattle.expression.specs.declared.Kind.{Kind}
 use Rattle.expression.specs.declared.Kind.TheVariants.{Union, Intersection, Concatenation, Complement, Star}
-use Rattle.expression.specs.Scan.{scanned, Means, finds, is_sentence}
-use Rattle.expression.specs.declared.ScanResult.{ScanResult}
-use Rattle.expression.specs.declared.ScanResult.TheVariants.{Complete, Broken}
+use Rattle.expression.specs.Scan.{scanned, Means, finds, is_sentence, ScanResult}
+use Rattle.std.proofs.Common.{Ok, Err}
 use Rattle.expression.proofs.ScanDecides.{scan_right}
 use Rattle.expression.proofs.Parses.{pushes, two, one, parse_whole}
 
@@ -45,8 +44,8 @@ pub one_reading : {s : List ℕ} {t r : Tree} → Reads Alt 0 s t → Reads Alt 
 one_reading p q = sym (tree_is p) ∙ tree_is q
 
 found_reads : (s : List ℕ) (f : ScanResult) → Means s f → T (finds f) → Reads Alt 0 s (tree_of s)
-found_reads s (Complete m k) x h = subst (Reads Alt 0 s) (sym (tree_is x.reads)) x.reads
-found_reads s (Broken i) x h = absurd h
+found_reads s (Ok z) x h = subst (Reads Alt 0 s) (sym (tree_is x.reads)) x.reads
+found_reads s (Err i) x h = absurd h
 
 -- a text that the scan finds to be a sentence is read as `tree_of` computes
 pub sentence_reads : (s : List ℕ) → T (is_sentence s) → Reads Alt 0 s (tree_of s)

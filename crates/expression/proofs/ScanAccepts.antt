@@ -11,15 +11,20 @@ use Rattle.event.specs.Event.{is_event, Events}
 use Rattle.event.proofs.EventLaws.{event_not, reserved_foreign}
 use Rattle.event.proofs.Tests.{of_T}
 use Rattle.expression.specs.Bytes.{is_start}
-use Rattle.expression.specs.Scan.{to, step_after, step_before, scan_from, scanned, after_step}
+use Rattle.expression.specs.Scan.{to, step_after, step_before, scan_from, scanned, after_step, ScanResult, counted}
+use Rattle.expression.specs.declared.Size.{Size}
 use Rattle.expression.specs.declared.Stage.{Stage}
 use Rattle.expression.specs.declared.Stage.TheVariants.{Operand, Ended, Opened, Letters}
-use Rattle.expression.specs.declared.ScanResult.{ScanResult}
-use Rattle.expression.specs.declared.ScanResult.TheVariants as result
 use Rattle.expression.specs.Tree.{Tree, size, specials}
 use Rattle.expression.specs.Grammar.{Level, Alt, Reads, alt_conj, alt_bar, conj_seq, conj_amp, seq_pre, seq_more, pre_post, pre_bang, post_atom}
 use Rattle.expression.specs.Grammar.{post_star, atom_letter, atom_any, atom_set, atom_empty, atom_epsilon, atom_group}
 use Rattle.expression.proofs.Texts.{letter_leaf, begins, start_not, start_some}
+
+-- one result has one pair of numbers
+pub same_counts : {m k n c : ℕ} → ◌≡◌ {A = ScanResult} (counted m k) (counted n c) → (m ≡ n) × (k ≡ c)
+same_counts {m} {k} {n} {c} e =
+    let z : ◌≡◌ {A = Size} (record { m = m; k = k }) (record { m = n; k = c }) = cc in
+    (ap (λ (z : Size). z.m) z, ap (λ (z : Size). z.k) z)
 
 -- a scan from a state that is written out
 abbrev pub from : List ℕ → ℕ → ℕ → Stage → ℕ → ℕ → ScanResult
@@ -126,9 +131,9 @@ scan_reads (atom_group {u = u} {t = t} r) x i d m k =
     ∙ meet x d Ended (omega (arith, length-append u (41 ∷ []))) refl refl
 
 -- each sentence is accepted, with its numbers of nodes and of special nodes
-pub sentence_found : {s : List ℕ} {t : Tree} → Reads Alt 0 s t → scanned s ≡ result.Complete (size t) (specials t)
+pub sentence_found : {s : List ℕ} {t : Tree} → Reads Alt 0 s t → scanned s ≡ counted (size t) (specials t)
 unfolding scan_from
 sentence_found {s} {t} r =
     ap (λ (u : List ℕ). scanned u) (sym (append-nil s))
     ∙ scan_reads r [] 0 0 0 0
-    ∙ ap₂ result.Complete (omega arith) (omega arith)
+    ∙ ap₂ counted (omega arith) (omega arith)

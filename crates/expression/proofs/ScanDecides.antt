@@ -13,14 +13,11 @@ use Rattle.event.specs.Event.{is_event}
 use Rattle.event.specs.LetterSets.{single, every}
 use Rattle.event.proofs.Tests.{T_of, choose}
 use Rattle.expression.specs.Bytes.{is_leaf}
-use Rattle.expression.specs.Scan.{step_of, step_after, step_before, step_opened, step_letters, finish_at, scan_from, scanned, after_step, Means}
+use Rattle.expression.specs.Scan.{step_of, step_after, step_before, step_opened, step_letters, finish_at, scan_from, scanned, after_step, Means, ScanStep, ScanResult, counted}
 use Rattle.expression.specs.declared.Stage.{Stage}
 use Rattle.expression.specs.declared.Stage.TheVariants as stage
 use Rattle.expression.specs.declared.ScanState.{ScanState}
-use Rattle.expression.specs.declared.ScanStep.{ScanStep}
-use Rattle.expression.specs.declared.ScanStep.TheVariants.{Stuck, Next}
-use Rattle.expression.specs.declared.ScanResult.{ScanResult}
-use Rattle.expression.specs.declared.ScanResult.TheVariants as result
+use Rattle.std.proofs.Common.{Some, None, Ok, Err}
 use Rattle.expression.specs.Tree.{Tree, empty, epsilon, letter}
 use Rattle.expression.specs.Grammar.{Atom, Reads, atom_letter, atom_any, atom_empty, atom_epsilon, Sentence, Viable}
 use Rattle.expression.proofs.ScanAccepts.{sentence_found}
@@ -50,8 +47,8 @@ Stands stage.Opened d p = Inside d p
 Stands stage.Letters d p = (i : Inside d p) × (1 ≤ length i.letters)
 
 abbrev Holds : List ℕ → ScanStep → Type 0
-Holds p Stuck = Unit {0}
-Holds p (Next q) = Stands q.stage q.depth p
+Holds p None = Unit {0}
+Holds p (Some q) = Stands q.stage q.depth p
 
 module _ (b d m k : ℕ) (p : List ℕ) where
   at_byte : (c : ℕ) (a : Stage) (e : ℕ) → eqb b c ≡ true → Stands a e (p ++ c ∷ []) → Stands a e (p ++ b ∷ [])
@@ -115,11 +112,11 @@ record Stop (s p : List ℕ) (i : ℕ) (q : ScanState) (j : ℕ) : Type 0 where
   place : j ≡ i + count
   within : count ≤ length s
   begins : Viable (p ++ take count s)
-  stuck : (n : ℕ) → count < n → n ≤ length s → (x : List ℕ) → scan_from (take n s ++ x) i q ≡ result.Broken j
+  stuck : (n : ℕ) → count < n → n ≤ length s → (x : List ℕ) → scan_from (take n s ++ x) i q ≡ Err j
 
 abbrev Ends : List ℕ → List ℕ → ℕ → ScanState → ScanResult → Type 0
-Ends s p i q (result.Complete m k) = Sentence (p ++ s)
-Ends s p i q (result.Broken j) = Stop s p i q j
+Ends s p i q (Ok z) = Sentence (p ++ s)
+Ends s p i q (Err j) = Stop s p i q j
 
 same_text_lem : (u v : List ℕ) → u ≡ v → Viable u → Viable v
 same_text_lem u v e x = subst (λ (s : List ℕ). Viable s) e x
@@ -145,7 +142,7 @@ finishes p i q stage.Ended e x stop =
 finishes p i q stage.Opened e x stop = stop
 finishes p i q stage.Letters e x stop = stop
 
-here : (b : ℕ) (s p : List ℕ) (i : ℕ) (q : ScanState) → Stands q.stage q.depth p → step_of q b ≡ Stuck → Stop (b ∷ s) p i q i
+here : (b : ℕ) (s p : List ℕ) (i : ℕ) (q : ScanState) → Stands q.stage q.depth p → step_of q b ≡ None → Stop (b ∷ s) p i q i
 unfolding scan_from
 here b s p i q x e =
     record {
@@ -156,11 +153,11 @@ here b s p i q x e =
       stuck = go;
     }
   where
-    go : (n : ℕ) → 0 < n → n ≤ suc (length s) → (x : List ℕ) → scan_from (take n (b ∷ s) ++ x) i q ≡ result.Broken i
+    go : (n : ℕ) → 0 < n → n ≤ suc (length s) → (x : List ℕ) → scan_from (take n (b ∷ s) ++ x) i q ≡ Err i
     go zero h g x = absurd (omega arith)
     go (suc n) h g x = ap (after_step (scan_from (take n s ++ x)) i) e
 
-later : (b : ℕ) (s p : List ℕ) (i : ℕ) (q r : ScanState) (j : ℕ) → step_of q b ≡ Next r → Stop s (p ++ b ∷ []) (i + 1) r j
+later : (b : ℕ) (s p : List ℕ) (i : ℕ) (q r : ScanState) (j : ℕ) → step_of q b ≡ Some r → Stop s (p ++ b ∷ []) (i + 1) r j
     → Stop (b ∷ s) p i q j
 unfolding scan_from
 later b s p i q r j e t =
@@ -172,21 +169,21 @@ later b s p i q r j e t =
       stuck = go;
     }
   where
-    go : (n : ℕ) → suc t.count < n → n ≤ suc (length s) → (x : List ℕ) → scan_from (take n (b ∷ s) ++ x) i q ≡ result.Broken j
+    go : (n : ℕ) → suc t.count < n → n ≤ suc (length s) → (x : List ℕ) → scan_from (take n (b ∷ s) ++ x) i q ≡ Err j
     go zero h g x = absurd (omega arith)
     go (suc n) h g x = ap (after_step (scan_from (take n s ++ x)) i) e ∙ t.stuck n (omega arith) (omega arith) x
 
-passed_on : (b : ℕ) (s p : List ℕ) (i : ℕ) (q r : ScanState) → step_of q b ≡ Next r → (f : ScanResult) → Ends s (p ++ b ∷ []) (i + 1) r f
+passed_on : (b : ℕ) (s p : List ℕ) (i : ℕ) (q r : ScanState) → step_of q b ≡ Some r → (f : ScanResult) → Ends s (p ++ b ∷ []) (i + 1) r f
     → Ends (b ∷ s) p i q f
-passed_on b s p i q r e (result.Complete m k) x = subst Sentence (append_assoc p (b ∷ []) s) x
-passed_on b s p i q r e (result.Broken j) x = later b s p i q r j e x
+passed_on b s p i q r e (Ok z) x = subst Sentence (append_assoc p (b ∷ []) s) x
+passed_on b s p i q r e (Err j) x = later b s p i q r j e x
 
 turned : (b : ℕ) (s p : List ℕ) (i : ℕ) (q : ScanState) → Stands q.stage q.depth p → (o : ScanStep) → step_of q b ≡ o
     → Holds (p ++ b ∷ []) o
     → ((r : ScanState) → Stands r.stage r.depth (p ++ b ∷ []) → Ends s (p ++ b ∷ []) (i + 1) r (scan_from s (i + 1) r))
     → Ends (b ∷ s) p i q (after_step (scan_from s) i o)
-turned b s p i q x Stuck e h ih = here b s p i q x e
-turned b s p i q x (Next r) e h ih = passed_on b s p i q r e (scan_from s (i + 1) r) (ih r h)
+turned b s p i q x None e h ih = here b s p i q x e
+turned b s p i q x (Some r) e h ih = passed_on b s p i q r e (scan_from s (i + 1) r) (ih r h)
 
 ends : (s p : List ℕ) (i : ℕ) (q : ScanState) → Stands q.stage q.depth p → Ends s p i q (scan_from s i q)
 unfolding scan_from
@@ -199,10 +196,10 @@ abbrev initial : ScanState
 initial = record { depth = 0; stage = stage.Operand; nodes = 0; specials = 0 }
 
 meant : (s : List ℕ) (f : ScanResult) → scanned s ≡ f → Ends s [] 0 initial f → Means s f
-meant s (result.Complete m k) e x =
+meant s (Ok z) e x =
     let c = sym e ∙ sentence_found x.1 in
     record { tree = x.0; reads = x.1; nodes = cc; special = cc }
-meant s (result.Broken j) e x =
+meant s (Err j) e x =
     let z : x.count ≡ j = omega (arith, x.place) in
     record {
       none_such = λ y. let c = sym e ∙ sentence_found y.1 in apart c;
@@ -213,7 +210,7 @@ meant s (result.Broken j) e x =
       };
     }
   where
-    apart : {m k : ℕ} → result.Broken j ≡ result.Complete m k → ⊥
+    apart : {m k : ℕ} → Err j ≡ counted m k → ⊥
     apart c = let n : ◌≡◌ {A = ℕ} 0 1 = cc in omega arith
 
 pub scan_right : (s : List ℕ) → Means s (scanned s)

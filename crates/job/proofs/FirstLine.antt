@@ -1,7 +1,7 @@
 -- The job's first line: which texts have one, and how it parts them. Assumes nothing.
 use Prim.Native.Nat.{ℕ, suc, ◌+◌, ◌-◌, ◌≤◌, ◌<◌}
 use native.Mathlib.Omega.{arith}
-use mathlib.Core.Path.{◌≡◌, refl, sym, ap, ◌∙◌}
+use mathlib.Core.Path.{◌≡◌, refl, sym, ap, ap₂, ◌∙◌}
 use mathlib.Core.Bool.{Bool, true, false, cond, ◌&&◌}
 use mathlib.Core.Logic.{⊎_elim}
 use mathlib.Core.List.{List}
@@ -18,10 +18,6 @@ use Rattle.rule.specs.RuleComputed.{rule_answer}
 use Rattle.event.specs.Text.{not_newline}
 use Rattle.job.specs.JobAnswer.{refusal}
 use Rattle.job.specs.JobComputed.{rule_length, is_job, rule_of, day_of, after_rule, job_result, written, job_answer}
-
--- where the first line ends; the length where it is not `R`, tab, bytes up to a newline
-abbrev pub line_end : List ℕ → ℕ
-line_end s = cond (is_job s) (2 + rule_length s) (length s)
 
 -- ---- what is no job
 both_false : (a b : Bool) → a ≡ false → (a && b) ≡ false
@@ -41,75 +37,46 @@ module _ (s : List ℕ) where
   abbrev ended : Bool
   ended = ltb (rule_length s) (length (drop 2 s))
 
-  none : is_job s ≡ false → length s ≡ line_end s
-  none e = rw e refl
+  pub no_tag : (get_or s 0 0 ≡ 82 → ⊥) → is_job s ≡ false
+  no_tag h = both_false (tag && tab) ended (both_false tag tab (ne_eqb (get_or s 0 0) 82 h))
 
-  pub no_tag : (get_or s 0 0 ≡ 82 → ⊥) → length s ≡ line_end s
-  no_tag h = none (both_false (tag && tab) ended (both_false tag tab (ne_eqb (get_or s 0 0) 82 h)))
+  pub no_tab : (get_or s 1 0 ≡ 9 → ⊥) → is_job s ≡ false
+  no_tab h = both_false (tag && tab) ended (last_false tag tab (ne_eqb (get_or s 1 0) 9 h))
 
-  pub no_tab : (get_or s 1 0 ≡ 9 → ⊥) → length s ≡ line_end s
-  no_tab h = none (both_false (tag && tab) ended (last_false tag tab (ne_eqb (get_or s 1 0) 9 h)))
+  -- a tab stands at the second byte
+  pub two_long : get_or s 1 0 ≡ 9 → 2 ≤ length s
+  two_long h =
+      ⊎_elim (λ (z : 1 < length s). omega arith)
+      (λ (z : length s ≤ 1). let e = get_or-eq_default s 0 {n = 1} z in absurd (omega arith))
+      (below_or_not 1 (length s))
 
-  pub no_room : length s < 2 → length s ≡ line_end s
-  no_room h = let e = get_or-eq_default s 0 {n = 1} (omega arith) in no_tab (λ f. omega arith)
+  module _ (r : ℕ) (e : r ≡ leading not_newline (tail 2 s)) where
+    pub end_within : r ≤ length (tail 2 s)
+    end_within = let w = (leading_found not_newline (tail 2 s)).within in omega arith
 
-  -- R and tab stand in front
-  pub line_end_lem : 2 ≤ length s → get_or s 0 0 ≡ 82 → get_or s 1 0 ≡ 9 → (r : ℕ) → r ≡ leading not_newline (tail 2 s) → 2 + r ≡ line_end s
-  line_end_lem h a b r e =
-      let f : r ≡ rule_length s = e ∙ ap (leading not_newline) (tail_is 2 s) in
-      let l = length-drop 2 s in
-      let w = (leading_found not_newline (drop 2 s)).within in
-      ⊎_elim
-      (λ (z : rule_length s < length (drop 2 s)).
-      let j : is_job s ≡ true = simp (eq-eqb (get_or s 0 0) 82 a, eq-eqb (get_or s 1 0) 9 b, lt-ltb (rule_length s) (length (drop 2 s)) z) in
-      rw (j, f) refl)
-      (λ (z : length (drop 2 s) ≤ rule_length s).
-      let k : ended ≡ false = le-ltb (rule_length s) (length (drop 2 s)) z in
-      let g : 2 + r ≡ length s = omega arith in
-      g ∙ none (last_false (tag && tab) ended k))
-      (below_or_not (rule_length s) (length (drop 2 s)))
+    rule_ends : r ≡ rule_length s
+    rule_ends = e ∙ ap (leading not_newline) (tail_is 2 s)
 
-  -- ---- what a job is parted into
-  pub not_job : (r : ℕ) → r ≡ line_end s → r ≡ length s → is_job s ≡ false
-  not_job r e f = either (is_job s) refl
-    where
-      either : (b : Bool) → is_job s ≡ b → is_job s ≡ false
-      either false z = z
-      either true z =
-          let j = T_of (is_job s) z in
-          let l = length-drop 2 s in
-          let k = ltb-true (rule_length s) (length (drop 2 s)) (of_T ended (and_split (tag && tab) ended j).1) in
-          let g : line_end s ≡ 2 + rule_length s = rw z refl in
-          absurd (omega arith)
+    pub no_end : r ≡ length (tail 2 s) → is_job s ≡ false
+    no_end h =
+        let l = ap length (tail_is 2 s) in
+        let f = rule_ends in
+        last_false (tag && tab) ended (le-ltb (rule_length s) (length (drop 2 s)) (omega arith))
 
-  pub is_job_lem : (r : ℕ) → r ≡ line_end s → (r ≡ length s → ⊥) → is_job s ≡ true
-  is_job_lem r e f = either (is_job s) refl
-    where
-      either : (b : Bool) → is_job s ≡ b → is_job s ≡ true
-      either true z = z
-      either false z = let g : line_end s ≡ length s = rw z refl in absurd (f (e ∙ g))
+    pub formed : get_or s 0 0 ≡ 82 → get_or s 1 0 ≡ 9 → (r ≡ length (tail 2 s) → ⊥) → is_job s ≡ true
+    formed a b h =
+        let l = ap length (tail_is 2 s) in
+        let f = rule_ends in
+        let w = end_within in
+        simp (eq-eqb (get_or s 0 0) 82 a, eq-eqb (get_or s 1 0) 9 b, lt-ltb (rule_length s) (length (drop 2 s)) (omega arith))
 
-  module _ (r : ℕ) (e : r ≡ line_end s) (j : is_job s ≡ true) where
-    pub ends_at : r ≡ 2 + rule_length s
-    ends_at = e ∙ rw j refl
+    pub rule_part : take r (tail 2 s) ≡ rule_of s
+    rule_part = ap₂ take rule_ends (tail_is 2 s)
 
-    pub ends_inside : r < length s
-    ends_inside =
-        let l = length-drop 2 s in
-        let k = ltb-true (rule_length s) (length (drop 2 s)) (of_T ended (and_split (tag && tab) ended (T_of (is_job s) j)).1) in
-        let g = ends_at in
-        omega arith
-
-    pub rule_part : take (r - 2) (drop 2 s) ≡ rule_of s
-    rule_part = let f : r - 2 ≡ rule_length s = omega (arith, ends_at) in ap (λ (n : ℕ). take n (drop 2 s)) f
-
-    pub day_part : tail (r + 1) s ≡ day_of s
+    pub day_part : tail (r + 1) (tail 2 s) ≡ day_of s
     day_part =
-        let f : r + 1 ≡ 2 + suc (rule_length s) = omega (arith, ends_at) in
-        tail_is (r + 1) s ∙ ap (λ (n : ℕ). drop n s) f ∙ sym (drop-drop (suc (rule_length s)) 2 s)
-
-  pub within : (r : ℕ) → r ≡ line_end s → (r ≡ length s → ⊥) → (2 ≤ r) × (r < length s)
-  within r e f = let j = is_job_lem r e f in (omega (arith, ends_at r e j), ends_inside r e j)
+        let f : r + 1 ≡ suc (rule_length s) = omega (arith, rule_ends) in
+        tail_is (r + 1) (tail 2 s) ∙ ap₂ drop f (tail_is 2 s)
 
 -- ---- the answer
 module _ (s old : List ℕ) where

@@ -23,8 +23,11 @@ use Rattle.work.specs.TableComputed.{found}
 use Rattle.work.proofs.Found.{found_listed}
 use Rattle.work.proofs.Listed.{listed}
 use Rattle.listing.specs.Lines.{fields, line, span_line, span_lines, head_line, refusal_line}
-use Rattle.job.specs.declared.Answer.{Answer}
-use Rattle.job.specs.JobAnswer.{JobAnswer, job_values}
+use Rattle.std.specs.Prelude.{Ok, Err}
+use Rattle.job.specs.declared.Accepted.{Accepted}
+use Rattle.job.specs.declared.Refusal.{Refusal}
+use Rattle.job.proofs.Steps.{refusal_number}
+use Rattle.job.specs.JobAnswer.{JobAnswer, job_values, row_verdict}
 use Rattle.job.specs.JobComputed.{refused, limit_of, job_answer, job_result, job_text}
 use Rattle.rule.specs.RuleMeaning.{Passed}
 use Rattle.job.specs.JobMeaning.{BothPassed, JobRefused, no_rule_line, rule_refused, day_refused, JobMeaning, row_refused, short_buffer}
@@ -199,18 +202,19 @@ text_inside (row_refused r) = omega arith
 text_inside (short_buffer j l h) = omega arith
 text_inside {old = old} (accepted {text = x} j l h) = omega (arith, length-append x (drop (length x) old))
 
--- the same of an answer of the code: where it accepts, the front of the buffer is the text
-module _ (s old : List ℕ) (room : 328985 ≤ length old) (a : Answer) (b : List ℕ) (e : job_values a b ≡ job_answer s old) where
-  call : job_text s ≡ cond (eqb a.number 0) (take a.n b) (refusal_line a.number a.place)
-  call =
-      subst (λ (x : JobAnswer). job_text s ≡ cond (eqb x.number 0) (take x.n x.out) (refusal_line x.number x.place)) (sym e)
-      (call_text s old room)
+-- the same of an answer of the code
+module _ (s old : List ℕ) (room : 328985 ≤ length old) (b : List ℕ) where
+  -- where it accepts, the front of the buffer is the text
+  module _ (l : Accepted) (e : job_values (Ok l) b ≡ job_answer s old) where
+    pub text_listed : take l.n b ≡ job_text s
+    text_listed = sym (subst (λ (x : JobAnswer). job_text s ≡ cond (eqb x.number 0) (take x.n x.out) (refusal_line x.number x.place)) (sym e) (call_text s old room))
 
-  pub text_listed : a.number ≡ 0 → take a.n b ≡ job_text s
-  text_listed z = sym (call ∙ simp (eq-eqb a.number 0 z))
+    pub text_within : l.n ≤ length b
+    text_within = text_inside (subst (JobMeaning s old) (sym e) (answer_means s old))
 
-  pub text_stopped : (a.number ≡ 0 → ⊥) → refusal_line a.number a.place ≡ job_text s
-  text_stopped z = sym (call ∙ simp (ne_eqb a.number 0 z))
-
-  pub text_within : a.n ≤ length b
-  text_within = text_inside (subst (JobMeaning s old) (sym e) (answer_means s old))
+  -- where it refuses, the text is the refusal's line
+  pub text_stopped : (r : Refusal) → job_values (Err r) b ≡ job_answer s old → refusal_line (row_verdict r).number (row_verdict r).place ≡ job_text s
+  text_stopped r e =
+      let c : job_text s ≡ cond (eqb (row_verdict r).number 0) (take 0 b) (refusal_line (row_verdict r).number (row_verdict r).place) =
+      subst (λ (x : JobAnswer). job_text s ≡ cond (eqb x.number 0) (take x.n x.out) (refusal_line x.number x.place)) (sym e) (call_text s old room) in
+      sym (c ∙ simp (ne_eqb (row_verdict r).number 0 (refusal_number r)))

@@ -4,37 +4,34 @@ use mathlib.Core.Path.{◌≡◌, ap, ap₂, ◌∙◌}
 use mathlib.Core.List.{List, [], ◌∷◌}
 use lib.ListN.{length, take, replicate}
 use lib.Seq.{length-take-le}
-use types.Run.{OneOf, miss}
-use denote.Enum.Declared.{tag_of}
 use borrow.Author.Tests.{eqb-false, ne_eqb, lt-ltb, le-ltb}
 use Rattle.expression.specs.declared.Node.{Node}
 use Rattle.rule.specs.RuleAnswer as rule
 use Rattle.rule.specs.RuleAnswer.{RuleAnswer, rule_values}
 use Rattle.rule.specs.RuleComputed.{rule_answer}
-use Rattle.rule.specs.declared.Outcome as rule-type
-use Rattle.rule.specs.contracts.Outcome as rule-declared
+use Rattle.std.proofs.Common.{Err}
+use Rattle.rule.specs.declared.Refusal.{Refusal}
 use Rattle.rule.proofs.Rows as rule-rows
-use Rattle.rule.specs.declared.Outcome.TheVariants as rule-outcome
 use Rattle.day.specs.DayAnswer as day
 use Rattle.day.specs.DayAnswer.{DayAnswer, day_values}
 use Rattle.day.specs.DayComputed.{day_answer}
-use Rattle.day.specs.declared.Outcome as day-type
-use Rattle.day.specs.contracts.Outcome as day-declared
+use Rattle.std.specs.Prelude.{Err}
+use Rattle.day.specs.declared.Refusal as day-type
 use Rattle.day.proofs.Rows as day-rows
-use Rattle.day.specs.declared.Outcome.TheVariants as day-outcome
 use Rattle.matcher.specs.MatchAnswer as matcher
 use Rattle.matcher.proofs.Joined as match-rows
 use Rattle.judge.specs.JudgeAnswer as judge
 use Rattle.judge.specs.JudgeAnswer.{JudgeAnswer, judge_values}
 use Rattle.judge.specs.JudgeComputed.{judge_answer}
-use Rattle.judge.specs.declared.Outcome as judge-type
-use Rattle.judge.specs.contracts.Outcome as judge-declared
-use Rattle.judge.specs.declared.Outcome.TheVariants as judge-outcome
+use Rattle.judge.specs.declared.Refusal as judge-type
+use Rattle.judge.specs.declared.Refusal.TheVariants as judge-refusal
 use Rattle.listing.specs.declared.Heading.{Heading}
 use Rattle.listing.specs.Marked.{listing}
 use Rattle.verdict.specs.declared.Verdict.{Verdict}
 use Rattle.work.specs.Table.{block_length}
-use Rattle.job.specs.JobAnswer.{refusal, acceptance}
+use Rattle.job.specs.declared.Refusal as job-type
+use Rattle.job.specs.declared.Refusal.TheVariants as why
+use Rattle.job.specs.JobAnswer.{refusal, acceptance, row_verdict}
 use Rattle.job.specs.JobComputed.{JobResult, refused, listed, limit_of, after_judge, after_day, after_rule, written}
 
 -- a refusal is no text
@@ -42,18 +39,13 @@ pub refused_written : (r : JobResult) (n p : ℕ) (old : List ℕ) → r ≡ ref
 refused_written r n p old e h = rw e (simp (ne_eqb n 0 h))
 
 -- ---- the rule text's row
-rule_number : (o : rule-type.Outcome) → OneOf (1 ∷ []) (tag_of rule-declared.the_type o) → (rule.outcome_verdict o).number ≡ 0 → ⊥
-rule_number (rule-outcome.Accepted m k) h = λ e. miss (1 ∷ []) 0 tt h
-rule_number (rule-outcome.Refused r) h = (rule-rows.in_row r).number
-
 -- the row refuses
-pub rule_stop : (s file old : List ℕ) (o : rule-type.Outcome) (ns : List Node) (v : Verdict) → rule_values o ns ≡ rule_answer s
-    → OneOf (1 ∷ []) (tag_of rule-declared.the_type o) → v ≡ rule.outcome_verdict o
+pub rule_stop : (s file old : List ℕ) (why : Refusal) (v : Verdict) → rule_values (Err why) ≡ rule_answer s → v ≡ rule.refusal_verdict why
     → refusal v.number v.place old ≡ written (after_rule s file (rule_answer s)) old
-rule_stop s file old o ns v e t w =
+rule_stop s file old why v e w =
     let a : v.number ≡ (rule_answer s).number = ap (λ (x : Verdict). x.number) w ∙ ap (λ (x : RuleAnswer). x.number) e in
     let b : v.place ≡ (rule_answer s).place = ap (λ (x : Verdict). x.place) w ∙ ap (λ (x : RuleAnswer). x.place) e in
-    let h : (rule_answer s).number ≡ 0 → ⊥ = λ z. rule_number o t (ap (λ (x : RuleAnswer). x.number) e ∙ z) in
+    let h : (rule_answer s).number ≡ 0 → ⊥ = λ z. (rule-rows.in_row why).number (ap (λ (x : RuleAnswer). x.number) e ∙ z) in
     ap₂ (λ (n p : ℕ). refusal n p old) a b
     ∙ refused_written (after_rule s file (rule_answer s)) (rule_answer s).number (rule_answer s).place old
     (simp (ne_eqb (rule_answer s).number 0 h)) h
@@ -64,18 +56,14 @@ pub rule_pass : (s file : List ℕ) (m k : ℕ) (ns : List Node) → rule.values
 rule_pass s file m k ns e = ap (after_rule s file) e
 
 -- ---- the day file's row
-day_number : (o : day-type.Outcome) → OneOf (1 ∷ []) (tag_of day-declared.the_type o) → (day.outcome_verdict o).number ≡ 0 → ⊥
-day_number (day-outcome.Accepted n) h = λ e. miss (1 ∷ []) 0 tt h
-day_number (day-outcome.Refused r) h = (day-rows.in_row r).number
-
 -- the row refuses
-pub day_stop : (s : List ℕ) (m k : ℕ) (old : List ℕ) (d : DayAnswer) (o : day-type.Outcome) (ls ss : List ℕ) (v : Verdict)
-    → day_values o ls ss ≡ d → OneOf (1 ∷ []) (tag_of day-declared.the_type o) → v ≡ day.outcome_verdict o
+pub day_stop : (s : List ℕ) (m k : ℕ) (old : List ℕ) (d : DayAnswer) (r : day-type.Refusal) (ls ss : List ℕ) (v : Verdict)
+    → day_values (Err r) ls ss ≡ d → v ≡ day.refusal_verdict r
     → refusal v.number v.place old ≡ written (after_day s m k d) old
-day_stop s m k old d o ls ss v e t w =
+day_stop s m k old d r ls ss v e w =
     let a : v.number ≡ d.number = ap (λ (x : Verdict). x.number) w ∙ ap (λ (x : DayAnswer). x.number) e in
     let b : v.place ≡ d.place = ap (λ (x : Verdict). x.place) w ∙ ap (λ (x : DayAnswer). x.place) e in
-    let h : d.number ≡ 0 → ⊥ = λ z. day_number o t (ap (λ (x : DayAnswer). x.number) e ∙ z) in
+    let h : d.number ≡ 0 → ⊥ = λ z. (day-rows.in_row r).number (ap (λ (x : DayAnswer). x.number) e ∙ z) in
     ap₂ (λ (n p : ℕ). refusal n p old) a b ∙ refused_written (after_day s m k d) d.number d.place old (simp (ne_eqb d.number 0 h)) h
 
 -- the row lets the day pass
@@ -86,19 +74,18 @@ day_pass s m k d n ls ss e h =
     ap (λ (x : ℕ). after_judge (judge_answer s (take n ls) (limit_of m x) (replicate 8192 0)) x m k) l ∙ ap (after_day s m k) e
 
 -- ---- the judge's row
-judge_number : (o : judge-type.Outcome) → OneOf (1 ∷ 2 ∷ []) (tag_of judge-declared.the_type o) → (judge.outcome_verdict o).number ≡ 0 → ⊥
-judge_number (judge-outcome.Accepted f c) h = λ e. miss (1 ∷ 2 ∷ []) 0 tt h
-judge_number (judge-outcome.RuleRefused r) h = (rule-rows.in_row r).number
-judge_number (judge-outcome.Refused r) h = eqb-false _ _ (match-rows.refusal_number_lem r)
+judge_number : (r : judge-type.Refusal Refusal) → (judge.refusal_verdict rule.refusal_verdict r).number ≡ 0 → ⊥
+judge_number (judge-refusal.Reading r) = (rule-rows.in_row r).number
+judge_number (judge-refusal.Matching r) = eqb-false _ _ (match-rows.refusal_number_lem r)
 
 -- the row refuses
-pub judge_stop : (n m k : ℕ) (old : List ℕ) (j : JudgeAnswer) (o : judge-type.Outcome) (b : List ℕ) (v : Verdict) → judge_values o b ≡ j
-    → OneOf (1 ∷ 2 ∷ []) (tag_of judge-declared.the_type o) → v ≡ judge.outcome_verdict o
+pub judge_stop : (n m k : ℕ) (old : List ℕ) (j : JudgeAnswer) (r : judge-type.Refusal Refusal) (b : List ℕ) (v : Verdict)
+    → judge_values (Err r) b ≡ j → v ≡ judge.refusal_verdict rule.refusal_verdict r
     → refusal v.number v.place old ≡ written (after_judge j n m k) old
-judge_stop n m k old j o b v e t w =
+judge_stop n m k old j r b v e w =
     let a : v.number ≡ j.number = ap (λ (x : Verdict). x.number) w ∙ ap (λ (x : JudgeAnswer). x.number) e in
     let p : v.place ≡ j.place = ap (λ (x : Verdict). x.place) w ∙ ap (λ (x : JudgeAnswer). x.place) e in
-    let h : j.number ≡ 0 → ⊥ = λ z. judge_number o t (ap (λ (x : JudgeAnswer). x.number) e ∙ z) in
+    let h : j.number ≡ 0 → ⊥ = λ z. judge_number r (ap (λ (x : JudgeAnswer). x.number) e ∙ z) in
     ap₂ (λ (x y : ℕ). refusal x y old) a p ∙ refused_written (after_judge j n m k) j.number j.place old (simp (ne_eqb j.number 0 h)) h
 
 -- the row lets the job pass
@@ -114,3 +101,12 @@ text_stop h block old l = simp (lt-ltb (length old) (length (listing h block)) l
 pub text_pass : (h : Heading) (block old : List ℕ) → length (listing h block) ≤ length old
     → acceptance h.found h.count (listing h block) old ≡ written (listed h block) old
 text_pass h block old l = simp (le-ltb (length old) (length (listing h block)) l)
+
+-- ---- the refusals
+-- none has the number of an acceptance
+pub refusal_number : (r : job-type.Refusal) → (row_verdict r).number ≡ 0 → ⊥
+refusal_number why.NoRuleLine = λ z. cc
+refusal_number (why.Rule r) = (rule-rows.in_row r).number
+refusal_number (why.Day r) = (day-rows.in_row r).number
+refusal_number (why.Judge r) = judge_number r
+refusal_number why.ShortBuffer = λ z. cc

@@ -9,40 +9,34 @@ use Rattle.expression.proofs.OneReading.{tree_is}
 use Rattle.rule.specs.RuleAnswer.{RuleAnswer, rule_values, refusal_verdict}
 use Rattle.rule.specs.RuleComputed.{rule_answer}
 use Rattle.rule.specs.RuleMeaning.{RuleMeaning}
-use Rattle.rule.specs.declared.Answer.{Answer}
-use Rattle.rule.specs.declared.Outcome.{Outcome}
-use Rattle.rule.specs.declared.Outcome.TheVariants.{Accepted, Refused}
+use Rattle.std.proofs.Common.{Ok, Err}
+use Rattle.expression.specs.declared.records.Records.{Records}
 use Rattle.rule.specs.declared.Refusal.{Refusal}
-use Rattle.rule.proofs.Answered.{answer_means, answer_of}
+use Rattle.rule.proofs.Answered.{answer_means}
 use Rattle.rule.proofs.Rows.{Accepting, accepting, in_row}
 use Rattle.verdict.specs.declared.Verdict.{Verdict}
 use Rattle.work.proofs.Order.{parts_rising}
-use Rattle.owners.specs.Filling.{tree_from}
+use Rattle.owners.specs.Filling.{rule_of}
 use Rattle.matcher.specs.MatchAnswer.{told}
 use Rattle.matcher.specs.MatchComputed.{match_answer}
 use Rattle.matcher.specs.Given.{RuleRecords}
 use Rattle.judge.specs.JudgeComputed.{judge_answer}
 use Rattle.judge.proofs.ReadRule.{ReadRule, rebuilt, as_records}
 
-module _ (s : List ℕ) (w : Word) (limit : ℕ) (old : List ℕ) (r : Answer) (v : answer_of r ≡ rule_answer s) where
-  -- the reader's answer, once its outcome is known
-  known : (o : Outcome) → r.outcome ≡ o → rule_values o r.nodes ≡ rule_answer s
-  known o e = ap (λ (x : Outcome). rule_values x r.nodes) (sym e) ∙ v
-
+module _ (s : List ℕ) (w : Word) (limit : ℕ) (old : List ℕ) where
   -- the reader refused
-  pub after_refusal : (why : Refusal) → r.outcome ≡ Refused why → told (refusal_verdict why) old ≡ judge_answer s w limit old
+  pub after_refusal : (why : Refusal) → rule_values (Err why) ≡ rule_answer s → told (refusal_verdict why) old ≡ judge_answer s w limit old
   unfolding judge_answer
-  after_refusal why e =
+  after_refusal why v =
       let i = in_row why in
-      ap (λ (v : Verdict). told v old) i.zero
-      ∙ rw (← known (Refused why) e) (simp (ne_eqb (refusal_verdict why).number 0 i.number))
+      ap (λ (v : Verdict). told v old) i.zero ∙ rw (← v) (simp (ne_eqb (refusal_verdict why).number 0 i.number))
 
   -- the reader accepted, with m, k and 64 records
-  module _ (m k : ℕ) (e : r.outcome ≡ Accepted m k) where
-    read_as : Accepting s (rule_values (Accepted m k) r.nodes)
-    read_as = accepting (subst (RuleMeaning s) (sym (known (Accepted m k) e)) (answer_means s)) refl
+  module _ (x : Records) (v : rule_values (Ok x) ≡ rule_answer s) where
+    read_as : Accepting s (rule_values (Ok x))
+    read_as = accepting (subst (RuleMeaning s) (sym v) (answer_means s)) refl
 
-    read_rule_lem : ReadRule read_as.tree r.nodes m k
+    read_rule_lem : ReadRule read_as.tree x.nodes x.m x.k
     read_rule_lem =
         let a = read_as in
         record {
@@ -54,12 +48,12 @@ module _ (s : List ℕ) (w : Word) (limit : ℕ) (old : List ℕ) (r : Answer) (
           rising = parts_rising a.passed.reads;
         }
 
-    pub rule_records : RuleRecords (tree_from r.nodes m) r.nodes m k
+    pub rule_records : RuleRecords (rule_of x) x.nodes x.m x.k
     rule_records = as_records read_rule_lem
 
-    pub after_acceptance : match_answer (tree_from r.nodes m) w limit old ≡ judge_answer s w limit old
+    pub after_acceptance : match_answer (rule_of x) w limit old ≡ judge_answer s w limit old
     unfolding judge_answer
     after_acceptance =
-        let n : (rule_answer s).number ≡ 0 = ap (λ (x : RuleAnswer). x.number) (sym (known (Accepted m k) e)) in
+        let n : (rule_answer s).number ≡ 0 = ap (λ (x : RuleAnswer). x.number) (sym v) in
         ap (λ (t : Tree). match_answer t w limit old) (rebuilt read_rule_lem ∙ sym (tree_is read_as.passed.reads))
         ∙ simp (eq-eqb (rule_answer s).number 0 n)

@@ -11,3 +11,5 @@ pub mod FileAnswered
 pub mod FileResults
 pub mod FileJoined
 mod FileEdges
+-- What a verdict of it says.
+pub mod Told

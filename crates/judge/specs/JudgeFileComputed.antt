@@ -3,10 +3,9 @@
 use Rattle.std.specs.Prelude.{ℕ, ◌-◌, List, [], ◌∷◌, get_or}
 use Rattle.event.specs.Event.{Word}
 use Rattle.expression.specs.Tree.{Tree, empty}
-use Rattle.rule_line.specs.Lines.{Line}
+use Rattle.rule_line.specs.Lines.{Line, LineNodes}
 use Rattle.rule_file.specs.FileAnswer.{FileAnswer}
 use Rattle.rule_file.specs.FileComputed.{FileRead, refused, passed, file_read}
-use Rattle.rule_line.specs.declared.LineNodes.{LineNodes}
 use Rattle.matcher.specs.MatchAnswer.{refusal}
 use Rattle.matcher.specs.MatchComputed.{match_answer}
 use Rattle.judge.specs.JudgeAnswer.{JudgeAnswer}

@@ -3,27 +3,57 @@
 
 pub mod file;
 
-ghost use Rattle.std.specs.Prelude.{◌≡◌, List, ℕ, ◌+◌, ◌*◌, ◌≤◌, length};
+ghost use Rattle.std.specs.Prelude.{◌≡◌, ◌+◌, ◌*◌, ◌≤◌, length};
 ghost use Rattle.rule.specs.RuleComputed.{rule_answer};
-ghost use Rattle.matcher.specs.MatchAnswer.{match_values};
-ghost use Rattle.judge.specs.JudgeAnswer.{outcome_verdict, judge_values};
+ghost use Rattle.judge.specs.declared.Refusal.TheVariants.{Reading, Matching};
+ghost use Rattle.judge.specs.JudgeAnswer.{TellsRefusal, judge_values};
 ghost use Rattle.judge.specs.JudgeComputed.{judge_answer};
 ghost use Rattle.judge.specs.JudgeMeaning.{JudgeMeaning};
 
-use matcher::{Outcome as MatchOutcome, Refusal as MatchRefusal};
-use rule::{Outcome as RuleOutcome, Refusal as RuleRefusal};
-use verdict::Verdict;
+use verdict::{Judged, Verdict};
 
-// Accepted, with found and count; or refused: by the rule reader, or for the word, the table or the limit.
-#[derive(Clone, Copy)]
-pub enum Outcome {
-    Accepted(u64, u64),
-    RuleRefused(RuleRefusal),
-    Refused(MatchRefusal),
+// Why nothing is judged: what a reader refuses the rule for, or what the matcher refuses the word, the table or the limit for.
+#[derive(Clone, Copy, PartialEq, Eq)]
+pub enum Refusal<R> {
+    Reading(R),
+    Matching(matcher::Refusal),
+}
+
+// Number, place and count of each refusal.
+impl<R: Into<Verdict>> From<Refusal<R>> for Verdict {
+    ghost from_gives = { λ refusal verdict. TellsRefusal R.converts refusal verdict };
+
+    fn from(refusal: Refusal<R>) -> Verdict {
+        match refusal {
+            Refusal::Reading(reading) => reading.into(),
+            Refusal::Matching(matching) => matching.into(),
+        }
+    }
+}
+
+impl From<rule::Refusal> for Refusal<rule::Refusal> {
+    ghost from_gives = { λ reading refusal. refusal ≡ Reading reading };
+
+    fn from(refusal: rule::Refusal) -> Refusal<rule::Refusal> {
+        Refusal::Reading(refusal)
+    }
+}
+
+impl<R> From<matcher::Refusal> for Refusal<R> {
+    ghost from_gives = { λ matching refusal. refusal ≡ Matching matching };
+
+    fn from(refusal: matcher::Refusal) -> Refusal<R> {
+        Refusal::Matching(refusal)
+    }
 }
 
 // Judges every span of the word by the rule, and fills the table.
-pub fn judge(rule: &[u8], word: &[u8], limit: u64, table: &mut [u64]) -> Outcome
+pub fn judge(
+    rule: &[u8],
+    word: &[u8],
+    limit: u64,
+    table: &mut [u64],
+) -> Result<Judged, Refusal<rule::Refusal>>
     ensures value { judge_values result table.new
         ≡ judge_answer rule.now word.now limit table.old }
     ensures meaning { JudgeMeaning rule.now word.now limit table.old
@@ -31,34 +61,7 @@ pub fn judge(rule: &[u8], word: &[u8], limit: u64, table: &mut [u64]) -> Outcome
     ensures bound { (judge_values result table.new).count
         ≤ (rule_answer rule.now).m * (length word.now + 1) * (length word.now + 2) }
 {
-    let reading = rule::read(rule);
-    let outcome = reading.outcome;
-    let nodes = reading.nodes;
-    match outcome {
-        RuleOutcome::Accepted(m, k) => {
-            matched(matcher::match_spans(nodes, m, k, word, limit, table))
-        }
-        RuleOutcome::Refused(refusal) => Outcome::RuleRefused(refusal),
-    }
-}
-
-// The outcome for a rule that was read, as one of the judge's.
-fn matched(outcome: MatchOutcome) -> Outcome
-    ensures { (b : List ℕ) → judge_values result b ≡ match_values outcome b }
-{
-    match outcome {
-        MatchOutcome::Accepted(found, count) => Outcome::Accepted(found, count),
-        MatchOutcome::Refused(refusal) => Outcome::Refused(refusal),
-    }
-}
-
-// Number, place, found and count of an answer.
-pub fn outcome_verdict(outcome: Outcome) -> Verdict
-    ensures { result ≡ outcome_verdict outcome }
-{
-    match outcome {
-        Outcome::Accepted(found, count) => verdict::acceptance(found, count),
-        Outcome::RuleRefused(refusal) => rule::refusal_verdict(refusal),
-        Outcome::Refused(refusal) => matcher::refusal_verdict(refusal),
-    }
+    let records = rule::read(rule)?;
+    let judged = matcher::match_spans(&records, word, limit, table)?;
+    Ok(judged)
 }

@@ -2,22 +2,22 @@
 use mathlib.Core.Path.{◌≡◌, refl, sym, ap, ◌∙◌, subst}
 use mathlib.Core.Bool.{Bool, true, false, false≢true}
 use mathlib.Core.Logic.{inl, inr, ⊎_elim}
-use mathlib.Core.List.{List}
+use mathlib.Core.List.{List, [], ◌∷◌}
 use Prim.Native.Nat.{ℕ, suc, ◌+◌, ◌-◌, ◌*◌, ◌/◌, ◌%◌, ◌≤◌, ◌<◌}
 use native.Mathlib.Omega.{arith}
 use native.Mathlib.Numerals.{add-one}
 use native.Mathlib.Nat.{div-div-eq-div-mul, pow-succ'}
-use lib.ListN.{get_or}
-use lib.Bits.{bit_and}
+use lib.ListN.{get_or, replicate}
+use lib.Bits.{bit_and, or_zero_l}
 use lib.Dec.{eqb}
 use borrow.Author.Tests.{eqb-false}
+use Rattle.std.proofs.lemmas.Bool.{cases_lt, cases_eq}
 use Rattle.bits.specs.Bit.{has_bit, bit_at}
 use Rattle.bits.specs.Runs.{Merged, Adds}
-use Rattle.bits.proofs.Digits.{below_or_not, same_or_not, and_both, and_left, and_right}
-use Rattle.bits.proofs.Laws.{merged_adds, adds_then, adds_as}
-use Rattle.levels.specs.Sets.{Entries, LetterExit}
+use Rattle.bits.proofs.Digits.{and_both, and_left, and_right}
+use Rattle.bits.proofs.Laws.{word_bit, merge_law, merged_adds, adds_then, adds_as}
+use Rattle.levels.specs.Sets.{Exactly, Entries, LetterExit}
 use Rattle.levels.specs.Private.{MovedUp, ExitOf}
-use Rattle.moves.proofs.RowLaws.{word_bit}
 
 -- ---- up by a bit
 
@@ -31,7 +31,7 @@ top_clear x l e =
     let n = eqb-false (x / 9223372036854775808 % 2) 1 e in
     ⊎_elim (λ (h : x < 9223372036854775808). h)
     (λ (h : 9223372036854775808 ≤ x). absurd (n (omega arith)))
-    (below_or_not x 9223372036854775808)
+    (cases_lt x 9223372036854775808)
 
 pub up_law : (x : ℕ) → MovedUp x (2 * x)
 unfolding has_bit
@@ -39,6 +39,14 @@ up_law x = record {
   on = λ b l. let e : 2 * x / 2 ≡ x = omega arith in rw add-one (has_half b (2 * x) ∙ ap (has_bit b) e);
   zero = let e : 2 * x / 1 % 2 ≡ 0 = omega arith in ap (λ (n : ℕ). eqb n 1) e;
 }
+
+-- ---- two numbers, as joined to the empty set
+
+low_merged : (low : ℕ) → Merged (replicate 2 0) 0 low (low ∷ 0 ∷ [])
+low_merged low = subst (λ (x : ℕ). Merged (0 ∷ 0 ∷ []) 0 low (x ∷ 0 ∷ [])) (or_zero_l low) (merge_law (0 ∷ 0 ∷ []) 0 low (omega arith))
+
+high_merged : (low high : ℕ) → Merged (low ∷ 0 ∷ []) 1 high (low ∷ high ∷ [])
+high_merged low high = subst (λ (x : ℕ). Merged (low ∷ 0 ∷ []) 1 high (low ∷ x ∷ [])) (or_zero_l high) (merge_law (low ∷ 0 ∷ []) 1 high (omega arith))
 
 -- ---- entries, moved up to their exits
 
@@ -65,7 +73,7 @@ module _ (F : ℕ → Type 0) (even : (s : ℕ) → s < 128 → F s → s % 2 �
         let b : s < 63 = omega arith in
         let y : has_bit s x ≡ true = sym (u.on s b) ∙ rw a at d in
         record { state = 64 * h + s; small = omega arith; exit = omega arith; there = half.to s (omega arith) y })
-        (same_or_not (q % 64) 0)
+        (cases_eq (q % 64) 0)
 
     half_from : (q : ℕ) (p : UpFrom F w q) → p.state / 64 ≡ h → (q / 64 ≡ w + h) × (has_bit (q % 64) r ≡ true)
     half_from q p n =
@@ -92,7 +100,7 @@ module _ (F : ℕ → Type 0) (even : (s : ℕ) → s < 128 → F s → s % 2 �
       ⊎_elim
       (λ (i : r.state < 64). let d = half_from 0 x low (omega arith) f u q r (omega arith) in let z = d.0 in inl (omega arith, d.1))
       (λ (i : 64 ≤ r.state). inr (half_from 1 y high (omega arith) g v q r (omega arith)))
-      (below_or_not r.state 64))
+      (cases_lt r.state 64))
       (adds_then (merged_adds m) (merged_adds n))
 
 -- ---- the exits of a set of entries
@@ -108,13 +116,13 @@ module _ (set : List ℕ) (even : Entries set) where
   set_half : (h : ℕ) → Half (λ (s : ℕ). bit_at set s ≡ true) even 0 h (get_or set h 0)
   set_half h = record { to = λ s l d. word_bit set h s l ∙ d; from = λ s l d. sym (word_bit set h s l) ∙ d }
 
-  pub exits_law : {a b c : List ℕ} (low high : ℕ) → MovedUp (get_or set 0 0) low → MovedUp (get_or set 1 0) high → Merged a 0 low b
-      → Merged b 1 high c → Adds a (ExitOf set) c
-  exits_law low high u v f g =
+  pub exits_law : (low high : ℕ) → MovedUp (get_or set 0 0) low → MovedUp (get_or set 1 0) high → Exactly (ExitOf set) (low ∷ high ∷ [])
+  exits_law low high u v =
       adds_as
       (λ q r. let e = r.exit in record { entry = r.state; exit = omega arith; small = r.small; there = r.there })
       (λ q r. let e = r.exit in record { state = r.entry; small = r.small; exit = omega arith; there = r.there })
-      (up_adds (λ (s : ℕ). bit_at set s ≡ true) even 0 (get_or set 0 0) (get_or set 1 0) low high (set_half 0) (set_half 1) u v f g)
+      (up_adds (λ (s : ℕ). bit_at set s ≡ true) even 0 (get_or set 0 0) (get_or set 1 0) low high (set_half 0) (set_half 1) u v
+      (low_merged low) (high_merged low high))
 
 -- ---- the letters of an event
 
@@ -150,10 +158,9 @@ module _ (letters set : List ℕ) (e : ℕ) (even : (s : ℕ) → s < 128 → bi
           and_both s (get_or set h 0) (get_or letters v 0) (sym (word_bit set h s k) ∙ d.0) (sym (letter_bit s k) ∙ d.1);
     }
 
-  pub event_law : {a b c : List ℕ} (low high : ℕ) → MovedUp (bit_and (get_or set 0 0) (get_or letters (2 * e) 0)) low
-      → MovedUp (bit_and (get_or set 1 0) (get_or letters (2 * e + 1) 0)) high → Merged a 0 low b → Merged b 1 high c
-      → Adds a (LetterExit letters set e) c
-  event_law low high u v f g =
+  pub event_law : (low high : ℕ) → MovedUp (bit_and (get_or set 0 0) (get_or letters (2 * e) 0)) low
+      → MovedUp (bit_and (get_or set 1 0) (get_or letters (2 * e + 1) 0)) high → Exactly (LetterExit letters set e) (low ∷ high ∷ [])
+  event_law low high u v =
       adds_as
       (λ q r.
       let k = r.exit in
@@ -161,4 +168,5 @@ module _ (letters set : List ℕ) (e : ℕ) (even : (s : ℕ) → s < 128 → bi
       (λ q r. let k = r.exit in record { state = r.state; small = r.small; exit = omega arith; there = (r.there, r.letter) })
       (up_adds Letter letter_even 0
       (bit_and (get_or set 0 0) (get_or letters (2 * e) 0)) (bit_and (get_or set 1 0) (get_or letters (2 * e + 1) 0)) low high
-      (letter_half 0 (2 * e) (omega arith) (omega arith)) (letter_half 1 (2 * e + 1) (omega arith) refl) u v f g)
+      (letter_half 0 (2 * e) (omega arith) (omega arith)) (letter_half 1 (2 * e + 1) (omega arith) refl) u v
+      (low_merged low) (high_merged low high))

@@ -9,20 +9,19 @@ use lib.ListN.{length, get_or, set, length-set}
 use lib.Seq.{get_or-set_same, get_or-set_other}
 use lib.Bits.{bit_or}
 use borrow.Author.Tests.{ltb-true, ltb-false, lt-ltb}
+use Rattle.std.proofs.lemmas.Bool.{cases_lt, cases_eq}
 use Rattle.bits.specs.Bit.{has_bit, bit_at}
-use Rattle.bits.specs.Runs.{Put, Adds, First}
-use Rattle.bits.proofs.Digits.{below_or_not, same_or_not, zero_has, has_or, mask_has}
-use Rattle.bits.proofs.Laws.{put_adds, adds_then, adds_as, or_cases}
+use Rattle.bits.specs.Runs.{Put, Adds, NoneLacks, Lowest, NoneFresh, Fresh}
+use Rattle.bits.proofs.Digits.{zero_has, has_or, mask_has}
+use Rattle.bits.proofs.Laws.{word_bit, put_adds, adds_none, adds_then, adds_as, or_cases}
 use Rattle.levels.specs.Sets.{Exactly, Among}
 use Rattle.levels.specs.Exits.{DueExit, FullAt, has_span}
-use Rattle.levels.specs.Private.{Missing, SameStates, PutIf, ExitOf, Gap, PutFull, kept_if, RowJoined, NodeEntered}
-use Rattle.moves.proofs.RowLaws.{word_bit}
+use Rattle.levels.specs.Private.{PutIf, ExitOf, GapAt, PutFull, kept_if, RowJoined, NodeEntered}
 
 -- ---- the loop over the keep nodes
 
 -- what holds at each turn: of the keep nodes' entries v those of d are done, and the states a are b now
 pub record Dues (x v : List ℕ) (j : ℕ) (d a b : List ℕ) : Type 0 where
-  pub two : length d ≡ 2
   pub inside : Among d v
   pub adds : Adds a (DueExit x d j) b
 
@@ -32,46 +31,44 @@ due_of u k = record { entry = u.entry; exit = u.exit; small = u.small; is_open =
 
 module _ (x v : List ℕ) (j : ℕ) where
   -- the exits of full nodes are there
-  pub dues_start : {f a d : List ℕ} → SameStates f d → length d ≡ 2 → FullAt x v f j → Exactly (ExitOf f) a → Dues x v j d a a
-  dues_start {f} {a} {d} same n full there = record {
-    two = n;
-    inside = λ s l e. (full s l (sym (same s l) ∙ e)).0;
+  pub dues_start : {f a : List ℕ} → FullAt x v f j → Exactly (ExitOf f) a → Dues x v j f a a
+  dues_start {f} {a} full there = record {
+    inside = λ s l e. (full s l e).0;
     adds = record {
       old = λ q e. e;
-      new = λ q u. there.new q record {
-        entry = u.entry;
-        exit = u.exit;
-        small = u.small;
-        there = sym (same u.entry u.small) ∙ u.is_open;
-      };
+      new = λ q u. there.new q record { entry = u.entry; exit = u.exit; small = u.small; there = u.is_open };
       only = λ q e. inl e;
       long = refl;
     };
   }
 
-  pub dues_done : {a b d : List ℕ} {s : ℕ} → Dues x v j d a b → Missing v d s → s ≡ 128 → Adds a (DueExit x v j) b
-  dues_done g m e =
+  pub dues_done : {a b d : List ℕ} → Dues x v j d a b → NoneFresh v d → Adds a (DueExit x v j) b
+  dues_done g none =
       adds_as (λ q u. due_of u (g.inside u.entry u.small u.is_open))
-      (λ q u. due_of u (m.none e u.entry u.small u.is_open)) g.adds
+      (λ q u. due_of u (none u.entry u.small u.is_open)) g.adds
 
-  pub dues_turn : {a b c d e : List ℕ} {s : ℕ} → Dues x v j d a b → Missing v d s → (s ≡ 128 → ⊥) → Put d s e
+  pub dues_turn : {a b c d e : List ℕ} {s : ℕ} → Dues x v j d a b → Fresh v d s → Put d s e
       → Adds b (PutIf x (128 * s + j) (s + 1)) c → Dues x v j e a c
-  dues_turn {a} {b} {c} {d} {e} {s} g m more p h =
-      let w = m.within in
-      let l : s < 128 = omega arith in
+  dues_turn {a} {b} {c} {d} {e} {s} g m p h =
       record {
-        two = p.long ∙ g.two;
-        inside = λ r k i. ⊎_elim (λ (y : bit_at d r ≡ true). g.inside r k y) (λ (y : r ≡ s). rw y (m.there l)) ((put_adds p).only r i);
+        inside = λ r k i. ⊎_elim (λ (y : bit_at d r ≡ true). g.inside r k y) (λ (y : r ≡ s). rw y m.there) ((put_adds p).only r i);
         adds = adds_as
             (λ q u.
             ⊎_elim (λ (y : DueExit x d j q). due_of y ((put_adds p).old y.entry y.is_open))
-            (λ y. record { entry = s; exit = y.0; small = l; is_open = p.same; bit = y.1 }) u)
+            (λ y. record { entry = s; exit = y.0; small = m.within; is_open = p.same; bit = y.1 }) u)
             (λ q u.
             ⊎_elim (λ (z : bit_at d u.entry ≡ true). inl (due_of u z))
             (λ (z : u.entry ≡ s). inr (rw z at u.exit, rw z at u.bit))
             ((put_adds p).only u.entry u.is_open))
             (adds_then g.adds h);
       }
+
+-- an exit that is put, or not
+pub put_if : (a : List ℕ) (p : ℕ) {b c : List ℕ} {q : ℕ} → bit_at a p ≡ true → Put b q c → Adds b (PutIf a p q) c
+put_if a p e h = adds_as (λ t i. (i, e)) (λ t i. i.0) (put_adds h)
+
+pub put_not : (a b : List ℕ) (p q : ℕ) → bit_at a p ≡ false → Adds b (PutIf a p q) b
+put_not a b p q e = adds_none b _ (λ t i. false≢true (sym e ∙ i.1))
 
 -- the exits of the full nodes f and those that are due are those that are due
 pub due_law : {x v f b c : List ℕ} {j : ℕ} → FullAt x v f j → Exactly (ExitOf f) b → Adds b (DueExit x v j) c → Exactly (DueExit x v j) c
@@ -114,10 +111,12 @@ module _ (x : List ℕ) (i k : ℕ) where
     begun = omega arith;
   }
 
-  module _ {below w r : ℕ} (g : Gapless x i k below w) (f : First 18446744073709551615 (bit_or (get_or x (4 * i + w) 0) below) r) where
-    gap_left : (m : ℕ) → k ≤ m → m < 64 * w + r → bit_at x (256 * i + m) ≡ true
-    gap_left m l h =
-        let n = f.within in
+  module _ {below w : ℕ} (g : Gapless x i k below w) where
+    -- what number w of the row shows up to its bit r
+    gap_left : (r : ℕ) → r ≤ 64
+        → ((b : ℕ) → b < r → has_bit b 18446744073709551615 ≡ true → has_bit b (bit_or (get_or x (4 * i + w) 0) below) ≡ true)
+        → (m : ℕ) → k ≤ m → m < 64 * w + r → bit_at x (256 * i + m) ≡ true
+    gap_left r n shown m l h =
         ⊎_elim (λ (z : m < 64 * w). g.left m l z)
         (λ (z : 64 * w ≤ m).
         let b = m - 64 * w in
@@ -126,44 +125,50 @@ module _ (x : List ℕ) (i k : ℕ) where
         ∙ ⊎_elim (λ (y : has_bit b (get_or x (4 * i + w) 0) ≡ true). y)
         (λ (y : has_bit b below ≡ true). let p = g.passed b y in absurd (omega arith))
         (or_cases (has_bit b (get_or x (4 * i + w) 0)) (has_bit b below)
-        (sym (has_or b (get_or x (4 * i + w) 0) below) ∙ f.below b (omega arith) (all_has b (omega arith)))))
-        (below_or_not m (64 * w))
+        (sym (has_or b (get_or x (4 * i + w) 0) below) ∙ shown b (omega arith) (all_has b (omega arith)))))
+        (cases_lt m (64 * w))
 
     -- a number that is not left, in the row's number w
-    pub gap_law : w < 4 → r < 64 → Gap x i k (64 * w + r)
-    gap_law v l =
+    pub gap_law : {r : ℕ} → w < 4 → Lowest 18446744073709551615 (bit_or (get_or x (4 * i + w) 0) below) r → GapAt x i k (64 * w + r)
+    gap_law {r} v f =
+        let l = f.within in
         let h = or_neither (has_bit r (get_or x (4 * i + w) 0)) (has_bit r below)
-        (sym (has_or r (get_or x (4 * i + w) 0) below) ∙ f.fresh l) in
+        (sym (has_or r (get_or x (4 * i + w) 0) below) ∙ f.fresh) in
         let e : 256 * i + (64 * w + r) ≡ 64 * (4 * i + w) + r = omega arith in
-        record { within = omega arith; left = gap_left; stops = λ _. (g.rest r h.1, ap (bit_at x) e ∙ word_bit x (4 * i + w) r l ∙ h.0) }
+        record {
+          within = omega arith;
+          left = gap_left r (omega arith) f.below;
+          from = g.rest r h.1;
+          stops = ap (bit_at x) e ∙ word_bit x (4 * i + w) r l ∙ h.0;
+        }
 
-    pub gap_turn : 64 ≤ r → Gapless x i k 0 (w + 1)
-    gap_turn l = record {
-      left = λ m n h. gap_left m n (omega arith);
+    pub gap_turn : NoneLacks 18446744073709551615 (bit_or (get_or x (4 * i + w) 0) below) → Gapless x i k 0 (w + 1)
+    gap_turn f = record {
+      left = λ m n h. gap_left 64 (omega arith) f m n (omega arith);
       passed = λ b d. absurd (false≢true (sym (zero_has b) ∙ d));
       rest = λ b d. let h = g.begun in omega arith;
       begun = let h = g.begun in omega arith;
     }
 
-  pub gap_none : {below w : ℕ} → Gapless x i k below w → 4 ≤ w → Gap x i k 256
-  gap_none g h = record { within = omega arith; left = λ m l n. g.left m l (omega arith); stops = λ l. absurd (omega arith) }
+  pub gap_none : {below w : ℕ} → Gapless x i k below w → 4 ≤ w → (m : ℕ) → k ≤ m → m < 256 → bit_at x (256 * i + m) ≡ true
+  gap_none g h m l n = g.left m l (omega arith)
 
-pub put_full_law : {x f g : List ℕ} (s k n r : ℕ) → s % 2 ≡ 0 → Gap x (s / 2) k r → n < r → Put f s g → PutFull x s k n f g
-put_full_law {x} {f} s k n r e gap l p = record {
+pub put_full_law : {x f g : List ℕ} (s k n : ℕ) → s % 2 ≡ 0 → ((m : ℕ) → k ≤ m → m ≤ n → bit_at x (256 * (s / 2) + m) ≡ true) → Put f s g
+    → PutFull x s k n f g
+put_full_law {x} {f} s k n e left p = record {
   here = (
-    λ _. inr (λ m i h. let q : 128 * s + m ≡ 256 * (s / 2) + m = omega arith in ap (bit_at x) q ∙ gap.left m i (omega arith)),
+    λ _. inr (λ m i h. let q : 128 * s + m ≡ 256 * (s / 2) + m = omega arith in ap (bit_at x) q ∙ left m i h),
     λ _. p.same,
   );
   other = p.other;
   long = p.long;
 }
 
-pub put_full_none : (x f : List ℕ) (s k n r : ℕ) → s % 2 ≡ 0 → Gap x (s / 2) k r → r ≤ n → n < 256 → PutFull x s k n f f
-put_full_none x f s k n r e gap l h =
-    let z = gap.stops (omega arith) in
+pub put_full_none : (x f : List ℕ) (s k n r : ℕ) → s % 2 ≡ 0 → GapAt x (s / 2) k r → r ≤ n → PutFull x s k n f f
+put_full_none x f s k n r e gap l =
     let q : 128 * s + r ≡ 256 * (s / 2) + r = omega arith in
     record {
-      here = (λ d. inl d, ⊎_elim (λ d. d) (λ d. absurd (false≢true (sym z.1 ∙ ap (bit_at x) (sym q) ∙ d r z.0 l))));
+      here = (λ d. inl d, ⊎_elim (λ d. d) (λ d. absurd (false≢true (sym gap.stops ∙ ap (bit_at x) (sym q) ∙ d r gap.from l))));
       other = λ t _. refl;
       long = refl;
     }
@@ -215,7 +220,7 @@ module _ (keep : Bool) (row : List ℕ) (i : ℕ) (x : List ℕ) where
       inside = λ q e m.
           ⊎_elim (λ (z : q / 64 ≡ 4 * i + w). put_here q z)
           (λ (z : q / 64 ≡ 4 * i + w → ⊥). set_apart y (4 * i + w) _ q z ∙ g.inside q e (omega arith))
-          (same_or_not (q / 64) (4 * i + w));
+          (cases_eq (q / 64) (4 * i + w));
       outside = λ q m.
           set_apart y (4 * i + w) _ q (λ (z : q / 64 ≡ 4 * i + w). let d : q / 256 ≡ i = omega arith in let n = m d in omega arith)
           ∙ g.outside q (λ e. let n = m e in omega arith);

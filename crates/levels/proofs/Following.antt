@@ -7,24 +7,24 @@ use Prim.Native.Nat.{ℕ, ◌+◌, ◌-◌, ◌*◌, ◌%◌, ◌^◌, ◌<◌}
 use native.Mathlib.Omega.{arith}
 use lib.ListN.{length, get_or, replicate}
 use lib.Bits.{bit_or}
+use Rattle.std.proofs.lemmas.Bool.{cases_eq}
 use Rattle.bits.specs.Bit.{has_bit, bit_at}
-use Rattle.bits.specs.Runs.{tally_below, Merged, Adds, First}
-use Rattle.bits.proofs.Digits.{same_or_not, has_or, power_has, power_lacks}
-use Rattle.bits.proofs.Laws.{adds_as, zeros_bit}
+use Rattle.bits.specs.Runs.{tally_below, Adds, RowOf, InRow, NoneLacks, Lowest}
+use Rattle.bits.proofs.Digits.{has_or, power_has, power_lacks}
+use Rattle.bits.proofs.Laws.{word_bit, by_half, adds_as, zeros_bit}
 use Rattle.bits.proofs.Tally.{left_less}
-use Rattle.moves.proofs.RowLaws.{word_bit, by_half, row_merged}
 use Rattle.levels.specs.Sets.{Reflexive, Transitive, AllLed}
 use Rattle.levels.specs.Private.{LedTo, LedFrom, FollowedWord}
 
 -- ---- what one state leads to
 
-pub led_law : (c : List ℕ) {a b d : List ℕ} (s : ℕ) → Merged a 0 (get_or c (2 * s) 0) b → Merged b 1 (get_or c (2 * s + 1) 0) d
-    → Adds a (LedTo c s) d
-led_law c s f g =
+pub led_law : (c : List ℕ) {a d r : List ℕ} (s : ℕ) → RowOf c s r → Adds a (InRow 0 r) d → Adds a (LedTo c s) d
+led_law c s e f =
     adds_as
-    (λ q u. let n = u.0 in let y : q % 128 ≡ q = omega arith in record { small = omega arith; leads = rw y at u.1 })
-    (λ q u. let n = u.small in let y : q % 128 ≡ q = omega arith in (omega arith, rw y u.leads))
-    (row_merged c 0 s f g)
+    (λ q u. let n = u.place in let l : q < 128 = omega arith in let y : q % 128 ≡ q = omega arith in
+    record { small = l; leads = sym (e q l) ∙ (rw y at u.there) })
+    (λ q u. let n = u.small in let y : q % 128 ≡ q = omega arith in record { place = omega arith; there = rw y (e q n ∙ u.leads) })
+    f
 
 -- ---- the loop over the states of one number
 
@@ -48,7 +48,7 @@ has_put b q n e =
     ⊎_elim (λ (y : q ≡ b). inl y)
     (λ (y : q ≡ b → ⊥).
     inr (sym (has_or q n (2 ^ b) ∙ ap (has_bit q n ||◌) (power_lacks b q y) ∙ or-false (has_bit q n)) ∙ e))
-    (same_or_not q b)
+    (cases_eq q b)
 
 has_put_old : (b q n : ℕ) → has_bit q n ≡ true → has_bit q (bit_or n (2 ^ b)) ≡ true
 has_put_old b q n e = has_or q n (2 ^ b) ∙ ap (λ x. x || has_bit q (2 ^ b)) e
@@ -58,10 +58,7 @@ has_put_same b n = has_or b n (2 ^ b) ∙ ap (has_bit b n ||◌) (power_has b) �
 
 -- one turn, over the state 64 * w + b
 module _ {c a d e : List ℕ} (w m n b : ℕ) (g : Following c a w n d e) (small : w < 2) (self : Reflexive c) (word : m ≡ get_or a w 0)
-    (first : First m n b) (more : b ≡ 64 → ⊥) where
-  b_small : b < 64
-  b_small = let l = first.within in omega arith
-
+    (first : Lowest m n b) where
   pub following_turn : {h : List ℕ} → Adds e (LedTo c (64 * w + b)) h → Following c a w (bit_or n (2 ^ b)) d h
   following_turn {h} more-led = record {
     old = λ r x. more-led.old r (g.old r x);
@@ -72,7 +69,7 @@ module _ {c a d e : List ℕ} (w m n b : ℕ) (g : Following c a w n d e) (small
         (λ (y : LedTo c (64 * w + b) t). inr record {
           by = 64 * w + b;
           small = s_small;
-          there = word_bit a w b b_small ∙ ap (has_bit b) (sym word) ∙ first.there b_small;
+          there = word_bit a w b first.within ∙ ap (has_bit b) (sym word) ∙ first.there;
           leads = y.leads;
           rest = λ u i v. more-led.new u record { small = i; leads = v };
         })
@@ -85,17 +82,16 @@ module _ {c a d e : List ℕ} (w m n b : ℕ) (g : Following c a w n d e) (small
   }
     where
       s_small : 64 * w + b < 128
-      s_small = let l = b_small in omega arith
+      s_small = let l = first.within in omega arith
 
   pub following_less : 64 - tally_below 64 (λ (q : ℕ). has_bit q (bit_or n (2 ^ b))) < 64 - tally_below 64 (λ (q : ℕ). has_bit q n)
   following_less =
-      left_less 64 (λ (q : ℕ). has_bit q n) (λ (q : ℕ). has_bit q (bit_or n (2 ^ b))) b (λ r. has_put_old b r n) b_small
-      (first.fresh b_small) (has_put_same b n)
+      left_less 64 (λ (q : ℕ). has_bit q n) (λ (q : ℕ). has_bit q (bit_or n (2 ^ b))) b (λ r. has_put_old b r n) first.within
+      first.fresh (has_put_same b n)
 
-pub following_done : {c a d e : List ℕ} (w m n b : ℕ) → Following c a w n d e → m ≡ get_or a w 0 → First m n b → b ≡ 64
-    → FollowedWord c a w d e
-following_done {c} {a} w m n b g word f q = record {
-  all = λ r l x. g.done r l (f.below r (omega arith) (rw word (sym (word_bit a w r l) ∙ x)));
+pub following_done : {c a d e : List ℕ} (w m n : ℕ) → Following c a w n d e → m ≡ get_or a w 0 → NoneLacks m n → FollowedWord c a w d e
+following_done {c} {a} w m n g word f = record {
+  all = λ r l x. g.done r l (f r l (rw word (sym (word_bit a w r l) ∙ x)));
   old = g.old;
   only = g.only;
   long = g.long;

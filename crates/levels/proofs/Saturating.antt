@@ -7,19 +7,18 @@ use Prim.Native.Nat.{ℕ, ◌+◌, ◌*◌, ◌/◌, ◌%◌, ◌≤◌, ◌<◌
 use native.Mathlib.Omega.{arith}
 use lib.ListN.{length}
 use Rattle.bits.specs.Bit.{bit_at}
-use Rattle.bits.specs.Runs.{Put, Adds}
+use Rattle.bits.specs.Runs.{Put, Adds, NoneFresh, Fresh}
 use Rattle.bits.proofs.Digits.{same_or_not}
 use Rattle.bits.proofs.Laws.{put_adds, adds_as, adds_none}
 use Rattle.moves.specs.Reached.{Reached, start, after}
 use Rattle.moves.specs.Moves.{FreeMove}
 use Rattle.levels.specs.Sets.{InSet, Among, Disjoint, Entries, Reflexive, Transitive}
 use Rattle.levels.specs.Exits.{to_come, LeftAt, Room, has_span, SpanHere, StepHere, Entered, Begun, Saturated}
-use Rattle.levels.specs.Private.{Missing, SameStates, Common, LedIf, NodeEntered}
-use Rattle.levels.proofs.SetLaws.{in_set, same_bits}
+use Rattle.levels.specs.Private.{Common, LedTo, LedIf, NodeEntered}
+use Rattle.levels.proofs.SetLaws.{same_bits}
 
 -- what is given of the automaton's lists, and of the set and the full nodes at the beginning
 pub record Ground (c specials firsts table : List ℕ) (n j : ℕ) (a f : List ℕ) : Type 0 where
-  pub long : length c ≡ 256
   pub reflexive : Reflexive c
   pub transitive : Transitive c
   pub even : Entries specials
@@ -53,50 +52,34 @@ module _ (c specials firsts table : List ℕ) (n j : ℕ) (a x v f : List ℕ) w
     pub full : (s : ℕ) → s < 128
         → (bit_at g s ≡ true) ↔ ((bit_at f s ≡ true) ⊎ ((bit_at entered s ≡ true) × (bit_at f s ≡ false) × LeftAt y s (j + 1) n))
     pub long : (length y ≡ length x) × (length g ≡ length f)
-    pub lengths : (length y ≡ 256) × (length u ≡ 2) × (length g ≡ 2) × (length entered ≡ 2) × (length set ≡ 2)
 
-  pub saturating_start : {entered set : List ℕ} → Ground c specials firsts table n j a f → SameStates f entered → SameStates a set
-      → (length x ≡ 256) × (length v ≡ 2) × (length f ≡ 2) × (length entered ≡ 2) × (length set ≡ 2)
-      → Saturating x v f entered set
-  saturating_start {entered} {set} u same start' k =
-      let back : (s : ℕ) → bit_at entered s ≡ true → bit_at f s ≡ true = λ s e. sym (same s (in_set entered k.3 s e)) ∙ e in
-      record {
-        ground = u;
-        base = λ s l e. start' s l ∙ e;
-        only = λ s l e. start record { small = l; there = sym (start' s l) ∙ e };
-        free = λ s t m e. start' t m.to ∙ u.begun.closed s t m (sym (start' s m.from) ∙ e);
-        exit = λ s t m e.
-            let l = m.small in
-            let ev = u.even s l m.special in
-            let z : t < 128 = let q = m.exit in omega arith in
-            start' t z ∙ ap (bit_at a) m.exit ∙ u.begun.exits s l (back s e);
-        full_in = λ s l e. same s l ∙ e;
-        inside = λ s e d. absurd (false≢true (sym d ∙ back s e));
-        joined = λ q e d. absurd (false≢true (sym d ∙ back (2 * (q / 256)) e));
-        kept = λ q _. refl;
-        opened = record {
-          old = λ q e. e;
-          new = λ q e. absurd (false≢true (sym e.1 ∙ back q e.0));
-          only = λ q e. inl e;
-          long = refl;
-        };
-        full = λ s l. (λ e. inl e, ⊎_elim (λ e. e) (λ e. back s e.0));
-        long = (refl, refl);
-        lengths = k;
-      }
+  pub saturating_start : Ground c specials firsts table n j a f → Saturating x v f f a
+  saturating_start u = record {
+    ground = u;
+    base = λ s l e. e;
+    only = λ s l e. start record { small = l; there = e };
+    free = u.begun.closed;
+    exit = λ s t m e. ap (bit_at a) m.exit ∙ u.begun.exits s m.small e;
+    full_in = λ s l e. e;
+    inside = λ s e d. absurd (false≢true (sym d ∙ e));
+    joined = λ q e d. absurd (false≢true (sym d ∙ e));
+    kept = λ q _. refl;
+    opened = record { old = λ q e. e; new = λ q e. absurd (false≢true (sym e.1 ∙ e.0)); only = λ q e. inl e; long = refl };
+    full = λ s l. (λ e. inl e, ⊎_elim (λ e. e) (λ e. e.0));
+    long = (refl, refl);
+  }
 
-  module _ {y u g entered set inner : List ℕ} {s : ℕ} (now : Saturating y u g entered set)
-      (m : Common set specials inner) (next : Missing inner entered s) where
+  module _ {y u g entered set inner : List ℕ} (now : Saturating y u g entered set) (m : Common set specials inner) where
     -- all special nodes of the set are entered, or were full
-    pub saturating_done : s ≡ 128 → Saturated c specials firsts table n j a x v f set y u g
-    saturating_done e =
+    pub saturating_done : NoneFresh inner entered → Saturated c specials firsts table n j a x v f set y u g
+    saturating_done none =
         let in_entered : (r : ℕ) → Entered specials f set r → bit_at entered r ≡ true =
-        λ r z. next.none e r z.small (m.both r z.small z.there z.special) in
+        λ r z. none r z.small (m.both r z.small z.there z.special) in
         record {
           all = now.base;
           only = now.only;
           free = now.free;
-          here = λ r t h d. now.exit r t h (next.none e r h.small (m.both r h.small d h.special));
+          here = λ r t h d. now.exit r t h (none r h.small (m.both r h.small d h.special));
           joined = λ q z. now.joined q (in_entered (2 * (q / 256)) z) z.fresh;
           kept = λ q ne. now.kept q (λ d.
               ⊎_elim (λ (z : bit_at f (2 * (q / 256)) ≡ true). z)
@@ -110,31 +93,22 @@ module _ (c specials firsts table : List ℕ) (n j : ℕ) (a x v f : List ℕ) w
         }
 
     -- one turn, over the special node of the entry s
-    module _ (more : s ≡ 128 → ⊥) where
-      s_small : s < 128
-      s_small = let l = next.within in omega arith
-
+    module _ {s : ℕ} (next : Fresh inner entered s) where
       here : bit_at specials s ≡ true
-      here = m.right s s_small (next.there s_small)
+      here = m.right s next.within next.there
 
       there : bit_at set s ≡ true
-      there = m.left s s_small (next.there s_small)
+      there = m.left s next.within next.there
 
       pub entry_even : s % 2 ≡ 0
-      entry_even = now.ground.even s s_small here
+      entry_even = now.ground.even s next.within here
 
       -- an entry is below 127, for its exit
-      pub entry_small : s < 127
-      entry_small = let l = s_small in let e = entry_even in omega arith
-
       exit_small : s + 1 < 128
-      exit_small = let l = entry_small in omega arith
-
-      not_entered : bit_at entered s ≡ false
-      not_entered = next.fresh s_small
+      exit_small = let l = next.within in let e = entry_even in omega arith
 
       not_full : bit_at f s ≡ false
-      not_full = fails (bit_at f s) (λ e. false≢true (sym not_entered ∙ now.full_in s s_small e))
+      not_full = fails (bit_at f s) (λ e. false≢true (sym next.fresh ∙ now.full_in s next.within e))
 
       module _ {entered' y' u' g' set' : List ℕ} {at_once : Bool} (p : Put entered s entered')
           (d : NodeEntered firsts table n j s y u g y' u' g') (h : at_once ≡ has_span firsts table n (s / 2) j j)
@@ -158,9 +132,9 @@ module _ (c specials firsts table : List ℕ) (n j : ℕ) (a x v f : List ℕ) w
             let o : bit_at u (2 * (q / 256)) ≡ bit_at v (2 * (q / 256)) =
             same_bits _ _
             (λ z. ⊎_elim (λ (k : bit_at v (2 * (q / 256)) ≡ true). k)
-            (λ k. absurd (false≢true (sym not_entered ∙ ap (bit_at entered) (sym e) ∙ k.0))) (now.opened.only (2 * (q / 256)) z))
+            (λ k. absurd (false≢true (sym next.fresh ∙ ap (bit_at entered) (sym e) ∙ k.0))) (now.opened.only (2 * (q / 256)) z))
             (now.opened.old (2 * (q / 256))) in
-            ap₂ ◌&&◌ o (now.kept q (λ k. absurd (false≢true (sym not_entered ∙ ap (bit_at entered) (sym e) ∙ k))))
+            ap₂ ◌&&◌ o (now.kept q (λ k. absurd (false≢true (sym next.fresh ∙ ap (bit_at entered) (sym e) ∙ k))))
 
         joined_on : (q : ℕ) → bit_at entered' (2 * (q / 256)) ≡ true → bit_at f (2 * (q / 256)) ≡ false
             → bit_at y' q ≡ (to_come x v q || has_span firsts table n (q / 256) j (q % 256))
@@ -202,7 +176,7 @@ module _ (c specials firsts table : List ℕ) (n j : ℕ) (a x v f : List ℕ) w
             ↔ ((bit_at f r ≡ true) ⊎ ((bit_at entered' r ≡ true) × (bit_at f r ≡ false) × LeftAt y' r (j + 1) n))) (sym e) (
               λ k. ⊎_elim
                   (λ (z : bit_at g s ≡ true).
-                  ⊎_elim (λ z. inl z) (λ z. absurd (false≢true (sym not_entered ∙ z.0))) ((now.full s s_small).0 z))
+                  ⊎_elim (λ z. inl z) (λ z. absurd (false≢true (sym next.fresh ∙ z.0))) ((now.full s next.within).0 z))
                   (λ z. inr (p.same, not_full, z)) (d.full.here.0 k),
               λ k. ⊎_elim (λ z. absurd (false≢true (sym not_full ∙ z))) (λ z. d.full.here.1 (inr z.2)) k,
             ))
@@ -234,7 +208,7 @@ module _ (c specials firsts table : List ℕ) (n j : ℕ) (a x v f : List ℕ) w
               ⊎_elim (λ (i : bit_at set t ≡ true). now.only t k i)
               (λ i.
               after
-              (after (now.only s s_small there) (inr record { small = s_small; special = here; exit = refl; span = sym h ∙ i.1 }))
+              (after (now.only s next.within there) (inr record { small = next.within; special = here; exit = refl; span = sym h ∙ i.1 }))
               (inl record { from = exit_small; to = k; move = i.0.leads }))
               (w.only t z);
           free = λ r t m k.
@@ -255,7 +229,7 @@ module _ (c specials firsts table : List ℕ) (n j : ℕ) (a x v f : List ℕ) w
           inside = λ r k i.
               ⊎_elim
               (λ (e : r ≡ s).
-              subst (Entered specials f set') (sym e) record { small = s_small; there = w.old s there; special = here; fresh = not_full })
+              subst (Entered specials f set') (sym e) record { small = next.within; there = w.old s there; special = here; fresh = not_full })
               (λ (e : r ≡ s → ⊥).
               let z = now.inside r (was r e k) i in
               record { small = z.small; there = w.old r z.there; special = z.special; fresh = z.fresh })
@@ -277,23 +251,28 @@ module _ (c specials firsts table : List ℕ) (n j : ℕ) (a x v f : List ℕ) w
           };
           full = full_on;
           long = (d.long ∙ now.long.0, d.full.long ∙ now.long.1);
-          lengths = let l = now.lengths in
-              (d.long ∙ l.0, d.opened.long ∙ l.1, d.full.long ∙ l.2, p.long ∙ l.3, w.long ∙ l.4);
         }
 
 -- a set without a special entry: nothing is entered
-pub plain_saturated : {c specials a f e : List ℕ} (firsts table x v : List ℕ) (n j : ℕ) → Begun c a f → Entries specials → Disjoint a specials
-    → SameStates a e → Saturated c specials firsts table n j a x v f e x v f
-plain_saturated {c} {specials} {a} {f} {e} firsts table x v n j b even none same =
-    let out : (s : ℕ) → Entered specials f e s → ⊥ = λ s z. none s z.small (sym (same s z.small) ∙ z.there) z.special in
+pub plain_saturated : {c specials a f : List ℕ} (firsts table x v : List ℕ) (n j : ℕ) → Begun c a f → Disjoint a specials
+    → Saturated c specials firsts table n j a x v f a x v f
+plain_saturated {c} {specials} {a} {f} firsts table x v n j b none =
+    let out : (s : ℕ) → Entered specials f a s → ⊥ = λ s z. none s z.small z.there z.special in
     record {
-      all = λ s l h. same s l ∙ h;
-      only = λ s l h. start record { small = l; there = sym (same s l) ∙ h };
-      free = λ s t m h. same t m.to ∙ b.closed s t m (sym (same s m.from) ∙ h);
-      here = λ s t m h. absurd (none s m.small (sym (same s m.small) ∙ h) m.special);
+      all = λ s l h. h;
+      only = λ s l h. start record { small = l; there = h };
+      free = b.closed;
+      here = λ s t m h. absurd (none s m.small h m.special);
       joined = λ q z. absurd (out (2 * (q / 256)) z);
       kept = λ q _. refl;
       opened = adds_none v _ out;
       full = λ s l. (λ h. inl h, ⊎_elim (λ h. h) (λ h. absurd (out s h.0)));
       lengths = (refl, refl);
     }
+
+-- what the exit leads to is added if the node is left at once
+pub led_if : {a b c : List ℕ} {s : ℕ} {test : Bool} → test ≡ true → Adds a (LedTo c s) b → Adds a (LedIf test c s) b
+led_if e f = adds_as (λ q u. (u, e)) (λ q u. u.0) f
+
+pub led_not : (a c : List ℕ) (s : ℕ) {test : Bool} → test ≡ false → Adds a (LedIf test c s) a
+led_not a c s e = adds_none a _ (λ q u. false≢true (sym e ∙ u.1))

@@ -8,44 +8,21 @@ use native.Mathlib.Omega.{arith}
 use lib.ListN.{length, get_or, get_or-eq_default}
 use lib.Dec.{lit<}
 use lib.Bits.{bit_and, bit_or, or_add_and, and_le_l, and_le_r}
+use Rattle.std.proofs.lemmas.Bool.{cases_lt}
 use Rattle.bits.specs.Bit.{has_bit, bit_at}
-use Rattle.bits.specs.Runs.{tally_below, Put, Adds, First}
-use Rattle.bits.proofs.Digits.{below_or_not, zero_has, and_both, and_left, and_right}
-use Rattle.bits.proofs.Laws.{put_adds, adds_as}
+use Rattle.bits.specs.Runs.{tally_below, Put, Fresh}
+use Rattle.bits.proofs.Digits.{zero_has, and_both, and_left, and_right}
+use Rattle.bits.proofs.Laws.{word_bit, low_bit, high_bit, by_half, put_adds}
 use Rattle.bits.proofs.Packed.{packed_is}
 use Rattle.bits.proofs.Tally.{left_less}
-use Rattle.moves.proofs.RowLaws.{word_bit, low_bit, high_bit, by_half}
 use Rattle.levels.specs.Sets.{Disjoint}
-use Rattle.levels.specs.Private.{Missing, SameStates, Common, PutIf}
+use Rattle.levels.specs.Private.{Common}
 
 pub same_bits : (x y : Bool) → (x ≡ true → y ≡ true) → (y ≡ true → x ≡ true) → x ≡ y
 same_bits true true f g = refl
 same_bits true false f g = sym (f refl)
 same_bits false true f g = g refl
 same_bits false false f g = refl
-
--- ---- a state that is missing
-
-module _ (a b : List ℕ) (low : ℕ) (f : First (get_or a 0 0) (get_or b 0 0) low) where
-  pub missing_low : low < 64 → Missing a b low
-  missing_low l = record {
-    within = omega arith;
-    there = λ _. low_bit a low l ∙ f.there l;
-    fresh = λ _. low_bit b low l ∙ f.fresh l;
-    none = λ e. absurd (omega arith);
-  }
-
-  pub missing_high : (high : ℕ) → First (get_or a 1 0) (get_or b 1 0) high → 64 ≤ low → Missing a b (64 + high)
-  missing_high high g k =
-      let p = f.within in let q = g.within in
-      record {
-        within = omega arith;
-        there = λ v. let l : high < 64 = omega arith in high_bit a high l ∙ g.there l;
-        fresh = λ v. let l : high < 64 = omega arith in high_bit b high l ∙ g.fresh l;
-        none = λ e. by_half (λ (s : ℕ). bit_at a s ≡ true → bit_at b s ≡ true)
-            (λ s l h. low_bit b s l ∙ f.below s (omega arith) (sym (low_bit a s l) ∙ h))
-            (λ s l h. high_bit b s l ∙ g.below s (omega arith) (sym (high_bit a s l) ∙ h));
-      }
 
 -- ---- what two sets have
 
@@ -88,11 +65,6 @@ or_zero x y e = let h = or_add_and x y in let g = and_le_l x y in let k = and_le
 pub no_bit : (b x : ℕ) → x ≡ 0 → has_bit b x ≡ true → ⊥
 no_bit b x e d = false≢true (sym (ap (has_bit b) e ∙ zero_has b) ∙ d)
 
--- ---- a bit that is put, or not
-
-pub put_if_put : (a : List ℕ) (p : ℕ) {b c : List ℕ} {q : ℕ} → bit_at a p ≡ true → Put b q c → Adds b (PutIf a p q) c
-put_if_put a p e h = adds_as (λ t i. (i, e)) (λ t i. i.0) (put_adds h)
-
 -- ---- a set has no other states
 
 pub in_set : (a : List ℕ) → length a ≡ 2 → (s : ℕ) → bit_at a s ≡ true → s < 128
@@ -102,24 +74,14 @@ in_set a l s e =
     (λ (h : 128 ≤ s).
     let z : get_or a (s / 64) 0 ≡ 0 = get_or-eq_default a 0 (omega arith) in
     absurd (no_bit (s % 64) (get_or a (s / 64) 0) z e))
-    (below_or_not s 128)
-
--- ---- a set copied
-
-pub same_law : (a r : List ℕ) → get_or r 0 0 ≡ get_or a 0 0 → get_or r 1 0 ≡ get_or a 1 0 → SameStates a r
-same_law a r e f =
-    by_half (λ (s : ℕ). bit_at r s ≡ bit_at a s) (λ s l. low_bit r s l ∙ ap (has_bit s) e ∙ sym (low_bit a s l))
-    (λ s l. high_bit r s l ∙ ap (has_bit s) f ∙ sym (high_bit a s l))
+    (cases_lt s 128)
 
 -- ---- how many states are left
 
 -- what is left of the states shrinks where a missing one is put
-pub missing_less : {v d e : List ℕ} {s : ℕ} → Missing v d s → (s ≡ 128 → ⊥) → Put d s e
+pub missing_less : {v d e : List ℕ} {s : ℕ} → Fresh v d s → Put d s e
     → 128 - tally_below 128 (bit_at e) < 128 - tally_below 128 (bit_at d)
-missing_less {v} {d} {e} {s} m more p =
-    let w = m.within in
-    let l : s < 128 = omega arith in
-    left_less 128 (bit_at d) (bit_at e) s (put_adds p).old l (m.fresh l) p.same
+missing_less {v} {d} {e} {s} m p = left_less 128 (bit_at d) (bit_at e) s (put_adds p).old m.within m.fresh p.same
 
 -- ---- sets without a common state
 

@@ -1,5 +1,4 @@
--- The parts of an automaton, and what each call makes of sets of states.
-pub mod AutomatonParts
+-- What each call makes of sets of states.
 pub mod Sets
 pub mod Exits
 -- What the private functions do.

@@ -1,21 +1,10 @@
 -- What the private functions do to the sets of states and exits that they are lent. Assumes nothing.
-use Rattle.std.specs.Prelude.{ℕ, ◌+◌, ◌*◌, ◌/◌, ◌%◌, ◌≤◌, ◌<◌, ◌≡◌, ◌⊎◌, ◌↔◌, List, Bool, true, false, cond, ◌&&◌, ◌||◌, length}
+use Rattle.std.specs.Prelude.{ℕ, ◌+◌, ◌*◌, ◌/◌, ◌%◌, ◌≤◌, ◌<◌, ◌≡◌, ◌⊎◌, ◌↔◌, List, Bool, true, false, cond, ◌&&◌, ◌||◌, Option, MatchOption, length}
 use Rattle.bits.specs.Bit.{has_bit, bit_at}
 use Rattle.bits.specs.Runs.{Put}
 use Rattle.levels.specs.Exits.{to_come, LeftAt, has_span}
 
 -- ---- sets of states
-
--- r is a state of a that b lacks, or 128 where there is none
-pub record Missing (a b : List ℕ) (r : ℕ) : Type 0 where
-  pub within : r ≤ 128
-  pub there : r < 128 → bit_at a r ≡ true
-  pub fresh : r < 128 → bit_at b r ≡ false
-  pub none : r ≡ 128 → (s : ℕ) → s < 128 → bit_at a s ≡ true → bit_at b s ≡ true
-
--- r has the states of a
-abbrev pub SameStates : (a r : List ℕ) → Type 0
-SameStates a r = (s : ℕ) → s < 128 → bit_at r s ≡ bit_at a s
 
 -- r has the states that a and b have
 pub record Common (a b r : List ℕ) : Type 0 where
@@ -67,11 +56,16 @@ pub record ExitOf (set : List ℕ) (t : ℕ) : Type 0 where
   pub small : entry < 128
   pub there : bit_at set entry ≡ true
 
--- node i is left at every number from k on that is below r, and not at r, or r is 256
-pub record Gap (exits : List ℕ) (i k r : ℕ) : Type 0 where
-  pub within : r ≤ 256
+-- node i is left at every number from k on that is below r, and not at r
+pub record GapAt (exits : List ℕ) (i k r : ℕ) : Type 0 where
+  pub within : r < 256
   pub left : (m : ℕ) → k ≤ m → m < r → bit_at exits (256 * i + m) ≡ true
-  pub stops : r < 256 → (k ≤ r) × (bit_at exits (256 * i + r) ≡ false)
+  pub from : k ≤ r
+  pub stops : bit_at exits (256 * i + r) ≡ false
+
+-- the first such number, if there is one: node i is left at every number from k on otherwise
+abbrev pub Gap : (exits : List ℕ) (i k : ℕ) → Option ℕ → Type 0
+Gap x i k found = MatchOption found ((m : ℕ) → k ≤ m → m < 256 → bit_at x (256 * i + m) ≡ true) (GapAt x i k)
 
 -- g is f with s, if its node is left at every number from k to n
 pub record PutFull (exits : List ℕ) (s k n : ℕ) (f g : List ℕ) : Type 0 where

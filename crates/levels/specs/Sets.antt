@@ -28,6 +28,10 @@ NoState a = (s : ℕ) → bit_at a s ≡ true → ⊥
 abbrev pub Entries : (set : List ℕ) → Type 0
 Entries a = (s : ℕ) → s < 128 → bit_at a s ≡ true → s % 2 ≡ 0
 
+-- so are those of each letter's nodes
+abbrev pub LetterEntries : (letters : List ℕ) → Type 0
+LetterEntries a = (e s : ℕ) → s < 128 → bit_at a (128 * e + s) ≡ true → s % 2 ≡ 0
+
 -- ---- free moves
 
 -- each state leads to itself

@@ -3,7 +3,7 @@
 use Prim.Native.Nat.{ℕ, zero, suc, ◌+◌, ◌-◌, ◌*◌, ◌≤◌, ◌<◌}
 use native.Mathlib.Omega.{arith}
 use mathlib.Core.Path.{◌≡◌, refl, sym, ap, ap₂, ◌∙◌}
-use mathlib.Core.Logic.{◌⊎◌, inl, inr}
+use mathlib.Core.Logic.{◌⊎◌, inl, inr, ⊎_elim}
 use mathlib.Core.Bool.{Bool, true, false}
 use mathlib.Core.List.{List, [], ◌∷◌, ◌++◌, append_assoc}
 use lib.ListN.{length, length-append}
@@ -25,20 +25,16 @@ module _ (f : ℕ → Bool) (i n : ℕ) where
   unfolding ends
   first_end j h = let e : suc n - j ≡ suc (suc n - suc j) = omega arith in rw e refl
 
-  pub row_over : (j : ℕ) → n < j → row_lines f i n j ≡ []
+  row_over : (j : ℕ) → n < j → row_lines f i n j ≡ []
   unfolding ends span_lines
   row_over j h = let e : suc n - j ≡ 0 = omega arith in rw e refl
 
   -- one that passes
-  pub row_here : (j : ℕ) → j ≤ n → (j ≤ n → f j ≡ true) → row_lines f i n j ≡ span_line i j ++ row_lines f i n (j + 1)
+  row_here : (j : ℕ) → j ≤ n → f j ≡ true → row_lines f i n j ≡ span_line i j ++ row_lines f i n (j + 1)
   unfolding span_lines
   row_here j h t =
       let e : suc j ≡ j + 1 = omega arith in
-      first_end j h ∙ rw (t h) refl ∙ ap (λ (k : ℕ). span_line i j ++ row_lines f i n k) e
-
-  pub row_length : (j : ℕ) → j ≤ n → (j ≤ n → f j ≡ true)
-      → length (row_lines f i n j) ≡ length (span_line i j) + length (row_lines f i n (j + 1))
-  row_length j h t = ap length (row_here j h t) ∙ length-append (span_line i j) (row_lines f i n (j + 1))
+      first_end j h ∙ rw t refl ∙ ap (λ (k : ℕ). span_line i j ++ row_lines f i n k) e
 
   skip : (d j r : ℕ) → r ≡ j + d → ((k : ℕ) → j ≤ k → k < r → f k ≡ false) → row_lines f i n j ≡ row_lines f i n r
   skip zero j r e h = let z : j ≡ r = omega arith in ap (row_lines f i n) z
@@ -48,8 +44,18 @@ module _ (f : ℕ → Bool) (i n : ℕ) where
       go (inl l) s = row_over j l ∙ sym (row_over r (omega arith))
       go (inr l) s = let z : f j ≡ false = h j (omega arith) (omega arith) in first_end j l ∙ rw z s
 
-  pub row_next : {j r : ℕ} → Next f j n r → row_lines f i n j ≡ row_lines f i n r
-  row_next {j} {r} x = skip (r - j) j r (omega (arith, x.from)) x.none
+  -- the lines from j on: that of the next end, and those behind it
+  pub row_next : {j r : ℕ} → Next f j n r → row_lines f i n j ≡ span_line i r ++ row_lines f i n (r + 1)
+  row_next {j} {r} x = skip (r - j) j r (omega (arith, x.from)) x.none ∙ row_here r x.within x.there
+
+  pub row_added : {j r : ℕ} → Next f j n r
+      → length (row_lines f i n j) ≡ length (span_line i r) + length (row_lines f i n (r + 1))
+  row_added {r = r} x = ap length (row_next x) ∙ length-append (span_line i r) (row_lines f i n (r + 1))
+
+  -- where no end is left
+  pub row_end : (j : ℕ) → ((k : ℕ) → j ≤ k → k ≤ n → f k ≡ false) → row_lines f i n j ≡ []
+  row_end j none =
+      ⊎_elim (row_over j) (λ h. skip (suc n - j) j (suc n) (omega arith) (λ k l m. none k l (omega arith)) ∙ row_over (suc n) (omega arith)) (below_or_not n j)
 
 -- ---- a block
 lines_append : (l m : Spans) → span_lines (l ++ m) ≡ span_lines l ++ span_lines m

@@ -1,16 +1,18 @@
 -- Laws of texts written into a buffer: one behind another, and at its front. Assumes nothing.
 use Prim.Native.Nat.{ℕ, zero, suc, ◌+◌, ◌-◌, ◌≤◌, ◌<◌}
 use native.Mathlib.Omega.{arith}
-use native.Mathlib.Numerals.{add-one}
 use mathlib.Core.Path.{◌≡◌, refl, sym, ap, ap₂, ◌∙◌, subst}
 use mathlib.Core.List.{List, [], ◌∷◌, ◌++◌, append_assoc, append-nil}
-use lib.ListN.{length, get_or, take, drop, set, replicate, length-append, length-replicate}
-use lib.Seq.{sets, sets-eq, length-sets, take-suc, take_at}
+use lib.ListN.{length, get_or, take, drop, set, replicate, length-append, drop_of_length-le}
+use lib.Seq.{sets, sets-eq, length-sets, drop-cons, take_at}
+use borrow.Rule.Slice.PartMut.{put_mid, Post-is}
 use Rattle.decimal.specs.Decimal.{decimal}
 use Rattle.decimal.proofs.NumeralLaws.{decimal_length}
 use Rattle.listing.specs.declared.Heading.{Heading}
 use Rattle.listing.specs.Lines.{field, fields, line, head_line}
 use Rattle.listing.specs.Written.{Written}
+use Rattle.listing.specs.Writing.{HasRoom, Puts}
+use Rattle.listing.specs.declared.fields.Writer.{Writer}
 
 sets_append : (l : List ℕ) (i : ℕ) (s t : List ℕ) → sets l i (s ++ t) ≡ sets (sets l i s) (i + length s) t
 sets_append l i [] t = let e : i ≡ i + 0 = omega arith in ap (λ (k : ℕ). sets l k t) e
@@ -27,9 +29,6 @@ written_then {old} {mid} {new} {s} {t} {at} f g = record {
   upto = omega (arith, g.upto, f.upto, length-append s t);
 }
 
-pub written_as : {old s t new : List ℕ} {at e : ℕ} → s ≡ t → Written old at s new e → Written old at t new e
-written_as {old} {new = new} {at} {e} f w = subst (λ (r : List ℕ). Written old at r new e) f w
-
 -- a buffer keeps its length
 pub written_long : {old s new : List ℕ} {at e : ℕ} → Written old at s new e → length new ≡ length old
 written_long {old} {s} {new} {at} w = ap length w.bytes ∙ length-sets old at s
@@ -40,16 +39,6 @@ written_front {old} {s} w h =
     let z : 0 + length s ≡ length s = omega arith in
     w.bytes ∙ sets-eq s old 0 h ∙ ap (λ (k : ℕ). s ++ drop k old) z
 
--- one element more of a list that is being written
-pub written_more : {old new : List ℕ} {at : ℕ} (s : List ℕ) (i : ℕ) → i < length s → Written old at (take i s) new (at + i)
-    → Written old at (take (i + 1) s) (set new (at + i) (get_or s i 0)) (at + (i + 1))
-written_more {old} {new} {at} s i h w =
-    let x = get_or s i 0 in
-    let one : Written new (at + i) (x ∷ []) (set new (at + i) x) (at + i + 1) = record { bytes = refl; upto = omega arith } in
-    let both = written_then w one in
-    let e : at + (i + 1) ≡ at + i + 1 = omega arith in
-    rw (e, add-one, take-suc s i 0 h) both
-
 -- ---- rows of zeros
 abbrev pub zeros : ℕ → List ℕ
 zeros n = replicate n 0
@@ -59,52 +48,69 @@ drop_zeros zero m = let e : m ≡ m - 0 = omega arith in ap zeros e
 drop_zeros (suc n) zero = let e : 0 ≡ 0 - suc n = omega arith in ap zeros e
 drop_zeros (suc n) (suc m) = let e : m - n ≡ suc m - suc n = omega arith in drop_zeros n m ∙ ap zeros e
 
--- ---- a number's digits, with zeros behind them
-module _ {bytes : List ℕ} {len : ℕ} (x : ℕ)
-    (digits : (bytes ≡ decimal x ++ replicate (20 - length (decimal x)) 0) × (len ≡ length (decimal x))) where
-  pub digits_text : take len bytes ≡ decimal x
-  digits_text = ap (take len) digits.0 ∙ take_at (decimal x) (zeros (20 - length (decimal x))) len (sym digits.1)
+-- ---- a writer: what it puts, one text behind another
+pub puts_then : {old mid new : Writer} {s t : List ℕ} → Puts old s mid → Puts mid t new → Puts old (s ++ t) new
+puts_then f g = record { same = g.same ∙ f.same; written = written_then f.written g.written }
 
-  pub digits_many : length bytes ≡ 20
-  digits_many =
-      let e = decimal_length x in
-      ap length digits.0 ∙ length-append (decimal x) (zeros (20 - length (decimal x)))
-      ∙ omega (arith, length-replicate {A = ℕ} (20 - length (decimal x)) 0)
+pub puts_none : (w : Writer) → Puts w [] w
+puts_none w = record { same = refl; written = written_none w.out.now w.at }
 
--- ---- a text that is being written, piece by piece: all of it stands but `rest`
-pub record PartWritten (old : List ℕ) (at : ℕ) (whole rest mid : List ℕ) (m : ℕ) : Type 0 where
+pub puts_as : {old new : Writer} {s t : List ℕ} → s ≡ t → Puts old s new → Puts old t new
+puts_as {old} {new} e p = subst (λ (r : List ℕ). Puts old r new) e p
+
+-- all of `whole` is written but `rest`
+pub record PartPut (old : Writer) (whole rest : List ℕ) (mid : Writer) : Type 0 where
   pub done : List ℕ
-  pub written : Written old at done mid m
+  pub puts : Puts old done mid
   pub onward : done ++ rest ≡ whole
 
-pub part_start : {whole rest : List ℕ} (old : List ℕ) (at : ℕ) → rest ≡ whole → PartWritten old at whole rest old at
-part_start old at e = record { done = []; written = written_none old at; onward = e }
+pub part_start : (w : Writer) (whole : List ℕ) → PartPut w whole whole w
+part_start w whole = record { done = []; puts = puts_none w; onward = refl }
 
-module _ {old whole mid : List ℕ} {at m : ℕ} where
-  pub part_fits : {rest : List ℕ} → PartWritten old at whole rest mid m → at + length whole ≤ length old → m + length rest ≤ length mid
-  part_fits {rest} u h =
-      let e = ap length u.onward in
-      omega (arith, e, length-append u.done rest, u.written.upto, written_long u.written)
+module _ {old mid : Writer} {whole rest : List ℕ} (u : PartPut old whole rest mid) where
+  pub part_room : HasRoom old whole → HasRoom mid rest
+  part_room h =
+      let w = u.puts.written in
+      omega (arith, ap length u.onward, length-append u.done rest, w.upto, written_long w)
 
-  -- the next piece
-  pub part_more : {s rest new : List ℕ} {n : ℕ} (left : List ℕ) → PartWritten old at whole rest mid m → rest ≡ s ++ left
-      → Written mid m s new n → PartWritten old at whole left new n
-  part_more {s} left u e w = record {
+  -- the next piece, and what is left behind it
+  pub part_more : {new : Writer} {s : List ℕ} (left : List ℕ) → rest ≡ s ++ left → Puts mid s new → PartPut old whole left new
+  part_more {s = s} left e p = record {
     done = u.done ++ s;
-    written = written_then u.written w;
+    puts = puts_then u.puts p;
     onward = append_assoc u.done s left ∙ ap (u.done ++◌) (sym e) ∙ u.onward;
   }
 
-  pub part_as : {rest left : List ℕ} → rest ≡ left → PartWritten old at whole rest mid m → PartWritten old at whole left mid m
-  part_as e u = record { done = u.done; written = u.written; onward = ap (u.done ++◌) (sym e) ∙ u.onward }
+  pub part_piece_room : (s left : List ℕ) → rest ≡ s ++ left → HasRoom old whole → HasRoom mid s
+  part_piece_room s left e h = omega (arith, part_room h, ap length e, length-append s left)
 
-  pub part_long : {rest : List ℕ} → PartWritten old at whole rest mid m → length mid ≡ length old
-  part_long u = written_long u.written
+  pub part_done : rest ≡ [] → Puts old whole mid
+  part_done e = puts_as (sym (append-nil u.done) ∙ ap (u.done ++◌) (sym e) ∙ u.onward) u.puts
 
-  pub part_done : {rest : List ℕ} → PartWritten old at whole rest mid m → rest ≡ [] → Written old at whole mid m
-  part_done u e = written_as (sym (append-nil u.done) ∙ ap (u.done ++◌) (sym e) ∙ u.onward) u.written
+-- a text that was copied to its place
+pub copied : (old text now : List ℕ) (at : ℕ) → at + length text ≤ length old → now ≡ text
+    → put_mid at (at + length text - at) old now ≡ sets old at text
+copied old text now at h e =
+    ap₂ (λ (t d : List ℕ). take at old ++ (t ++ d)) e (Post-is at (at + length text) old (omega arith))
+    ∙ sym (append_assoc (take at old) text (drop (at + length text) old)) ∙ sym (sets-eq text old at h)
+
+-- a number's digits, with zeros behind them
+pub digits_text : {bytes shown : List ℕ} {len : ℕ} (x : ℕ)
+    → (bytes ≡ decimal x ++ replicate (20 - length (decimal x)) 0) × (len ≡ length (decimal x)) → shown ≡ take len bytes → shown ≡ decimal x
+digits_text {len = len} x digits e = e ∙ ap (take len) digits.0 ∙ take_at (decimal x) (zeros (20 - length (decimal x))) len (sym digits.1)
 
 -- ---- a line, field by field
+pub fields_on : (l : List ℕ) (i : ℕ) → i < length l → fields (drop i l) ≡ field (get_or l i 0) ++ fields (drop (i + 1) l)
+fields_on l i h = let e : suc i ≡ i + 1 = omega arith in ap fields (drop-cons l i 0 h) ∙ ap (λ (k : ℕ). field (get_or l i 0) ++ fields (drop k l)) e
+
+pub fields_end : (l : List ℕ) (i : ℕ) → length l ≤ i → fields (drop i l) ≡ 10 ∷ []
+fields_end l i h = ap fields (drop_of_length-le l h)
+
+pub field_added : (l : List ℕ) (i : ℕ) → i < length l
+    → length (fields (drop i l)) ≡ 1 + length (decimal (get_or l i 0)) + length (fields (drop (i + 1) l))
+field_added l i h =
+    omega (arith, ap length (fields_on l i h), length-append (field (get_or l i 0)) (fields (drop (i + 1) l)))
+
 pub fields_length : (x : ℕ) (l : List ℕ) → length (fields (x ∷ l)) ≡ length (field x) + length (fields l)
 fields_length x l = length-append (field x) (fields l)
 
@@ -123,23 +129,6 @@ head_length h =
     let f = fields_length h.m (h.k ∷ h.found ∷ last) in
     omega (arith, e, f, fields_length h.k (h.found ∷ last), fields_length h.found last, fields_length h.count [])
 
--- of the line `whole` all is written but the fields l and the newline
-pub record LineBegun (old : List ℕ) (at : ℕ) (whole l mid : List ℕ) (m : ℕ) : Type 0 where
-  pub text : PartWritten old at whole (fields l) mid m
-
-pub begun : {old mid : List ℕ} {at m c : ℕ} (l : List ℕ) → Written old at (c ∷ []) mid m → LineBegun old at (line c l) l mid m
-begun {c = c} l w = record { text = record { done = c ∷ []; written = w; onward = refl } }
-
-module _ {old whole mid : List ℕ} {at m : ℕ} where
-  pub field_fits : {x : ℕ} {l : List ℕ} → LineBegun old at whole (x ∷ l) mid m → at + length whole ≤ length old
-      → m + length (field x) ≤ length mid
-  field_fits {x} {l} b h = omega (arith, part_fits b.text h, fields_length x l)
-
-  pub newline_fits : LineBegun old at whole [] mid m → at + length whole ≤ length old → m < length mid
-  newline_fits b h = omega (arith, part_fits b.text h)
-
-  pub begun_field : {x n : ℕ} {l new : List ℕ} → LineBegun old at whole (x ∷ l) mid m → Written mid m (field x) new n → LineBegun old at whole l new n
-  begun_field {l = l} b w = record { text = part_more (fields l) b.text refl w }
-
-  pub begun_newline : {new : List ℕ} {n : ℕ} → LineBegun old at whole [] mid m → Written mid m (10 ∷ []) new n → Written old at whole new n
-  begun_newline b w = part_done (part_more [] b.text refl w) refl
+pub head_short : (h : Heading) → length (head_line h) ≤ 107
+head_short h =
+    omega (arith, head_length h, decimal_length h.n, decimal_length h.m, decimal_length h.k, decimal_length h.found, decimal_length h.count)

@@ -2,3 +2,4 @@
 pub mod Lines
 pub mod Marked
 pub mod Written
+pub mod Writing

@@ -1,5 +1,5 @@
 -- The spans that a block is_marked, and the text that lists them. Assumes nothing.
-use Rattle.std.specs.Prelude.{ℕ, zero, suc, ◌-◌, ◌≤◌, ◌<◌, ◌≡◌, Bool, true, false, List, [], ◌++◌}
+use Rattle.std.specs.Prelude.{ℕ, zero, suc, ◌-◌, ◌≤◌, ◌<◌, ◌≡◌, Bool, true, false, List, [], ◌++◌, Option, Some, None}
 use Rattle.bits.specs.Bit.{bit_at}
 use Rattle.work.specs.Spans.{Spans}
 use Rattle.work.specs.SpansComputed.{list_if}
@@ -40,8 +40,14 @@ row_lines f i n j = span_lines (ends f i (suc n - j) j)
 abbrev pub block_lines : (ℕ → ℕ → Bool) → ℕ → ℕ → List ℕ
 block_lines f n i = span_lines (starts f (suc n - i) i)
 
--- r is the first number from j to n that passes a test, or is beyond n where there is none
+-- r is the first number from j to n that passes a test
 pub record Next (f : ℕ → Bool) (j n r : ℕ) : Type 0 where
   pub from : j ≤ r
-  pub there : r ≤ n → f r ≡ true
+  pub within : r ≤ n
+  pub there : f r ≡ true
   pub none : (k : ℕ) → j ≤ k → k < r → f k ≡ false
+
+-- the first number from j to n that passes a test, if there is one
+abbrev pub NextEnd : (ℕ → Bool) → ℕ → ℕ → Option ℕ → Type 0
+NextEnd f j n None = (k : ℕ) → j ≤ k → k ≤ n → f k ≡ false
+NextEnd f j n (Some r) = Next f j n r

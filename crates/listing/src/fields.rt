@@ -1,57 +1,56 @@
-// Bytes and decimal fields, measured, and written at an offset of a buffer.
-ghost use Rattle.std.specs.Prelude.{◌≡◌, [], ◌∷◌, ◌+◌, ◌≤◌, ◌<◌, length, take};
+// Lines of decimal fields, measured, and written one behind another to a buffer.
+ghost use Rattle.std.specs.Prelude.{◌≡◌, [], ◌∷◌, ◌+◌, ◌*◌, ◌≤◌, length};
 ghost use Rattle.listing.specs.Lines.{field, line};
-ghost use Rattle.listing.specs.Written.{Written};
+ghost use Rattle.listing.specs.Writing.{HasRoom, Puts};
 
-use decimal::Digits;
-
-// Writes one byte; the answer is the offset behind it.
-pub fn put_byte(out: &mut [u8], at: usize, b: u8) -> usize
-    requires { at < length out.old }
-    ensures { Written out.old at (b ∷ []) out.new result }
-{
-    out[at] = b;
-    at + 1
+// A buffer that is being written: the next byte goes to the offset `at`.
+#[derive(Drop)]
+pub struct Writer<'a> {
+    pub out: &'a mut [u8],
+    pub at: usize,
 }
 
-// Writes a number's digits; the answer is the offset behind them.
-fn put_digits(out: &mut [u8], at: usize, digits: Digits) -> usize
-    requires { (at + digits.len ≤ length out.old) × (digits.len ≤ 20) × (length digits.bytes ≡ 20) }
-    ensures { Written out.old at (take digits.len digits.bytes) out.new result }
-{
-    let n = digits.len;
-    let mut i = 0;
-    while i < n {
-        out[at + i] = digits.bytes[i];
-        i += 1;
+impl<'a> Writer<'a> {
+    // Writes a text behind what is written.
+    fn put(&mut self, text: &[u8])
+        requires { HasRoom self.old text.now }
+        ensures { Puts self.old text.now self.new }
+    {
+        let end = self.at + text.len();
+        self.out[self.at..end].copy_from_slice(text);
+        self.at = end;
     }
-    at + n
+
+    // Writes a tab and a number.
+    fn put_field(&mut self, x: u64)
+        requires { HasRoom self.old (field x) }
+        ensures { Puts self.old (field x) self.new }
+    {
+        self.put(b"\t");
+        self.put(decimal::digits_of(x).as_slice());
+    }
+
+    // Writes a line: its letter, and its fields.
+    pub fn put_line(&mut self, letter: u8, fields: &[u64])
+        requires { HasRoom self.old (line letter fields.now) }
+        ensures { Puts self.old (line letter fields.now) self.new }
+    {
+        self.put(&[letter]);
+        for x in fields {
+            self.put_field(*x);
+        }
+        self.put(b"\n");
+    }
 }
 
-// Writes a tab and a number; the answer is the offset behind them.
-pub fn put_field(out: &mut [u8], at: usize, x: u64) -> usize
-    requires { at + length (field x) ≤ length out.old }
-    ensures { Written out.old at (field x) out.new result }
+// The length of a line of a few fields.
+pub fn line_length(fields: &[u64]) -> usize
+    requires { length fields.now ≤ 5 }
+    ensures { (letter : _) → result ≡ length (line letter fields.now) }
 {
-    let digits = decimal::digits_of(x);
-    let from = put_byte(out, at, b'\t');
-    put_digits(out, from, digits)
-}
-
-// Writes a line of two fields; the answer is the offset behind it.
-pub fn put_line(out: &mut [u8], at: usize, letter: u8, x: u64, y: u64) -> usize
-    requires { at + length (line letter (x ∷ y ∷ [])) ≤ length out.old }
-    ensures { Written out.old at (line letter (x ∷ y ∷ [])) out.new result }
-{
-    let begun = put_byte(out, at, letter);
-    let first = put_field(out, begun, x);
-    let second = put_field(out, first, y);
-    put_byte(out, second, b'\n')
-}
-
-// The length of a tab and a number.
-pub fn field_length(x: u64) -> usize
-    ensures { (result ≡ length (field x)) × (result ≤ 21) }
-{
-    decimal::width(x) + 1
+    let mut sum = 2;
+    for x in fields {
+        sum += 1 + decimal::width(*x);
+    }
+    sum
 }

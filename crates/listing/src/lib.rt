@@ -4,13 +4,12 @@
 mod fields;
 mod spans;
 
-ghost use Rattle.std.specs.Prelude.{◌≡◌, ◌++◌, ◌-◌, ◌≤◌, length, drop, replicate};
+ghost use Rattle.std.specs.Prelude.{◌≡◌, [], ◌∷◌, ◌++◌, ◌-◌, ◌≤◌, length, take, drop, replicate};
 ghost use Rattle.table.specs.Layout.{block_at, Lies};
-ghost use Rattle.listing.specs.Lines.{head_line, refusal_line};
+ghost use Rattle.listing.specs.Lines.{refusal_line};
 ghost use Rattle.listing.specs.Marked.{listing};
-ghost use Rattle.listing.specs.Written.{Written};
 
-use crate::fields::{field_length, put_byte, put_field, put_line};
+use crate::fields::{Writer, line_length};
 use crate::spans::{spans_length, write_spans};
 
 // The fields of the `H` line.
@@ -23,11 +22,30 @@ pub struct Heading {
     pub count: u64,
 }
 
-// A line: the first `len` of the bytes; the others are 0.
+// A line: the first `len` of the bytes; the others are 0. There is no heap, so the room is fixed.
 #[derive(Clone, Copy)]
 pub struct Line {
     pub bytes: [u8; 44],
     pub len: usize,
+    ghost within: { len ≤ 44 },
+}
+
+impl Line {
+    // The line alone.
+    pub fn as_slice(&self) -> &[u8]
+        ensures { result.now ≡ take self.now.len self.now.bytes }
+    {
+        &self.bytes[..self.len]
+    }
+}
+
+impl Heading {
+    // The fields in the order of the line.
+    fn fields(self) -> [u64; 5]
+        ensures { result ≡ self.n ∷ self.m ∷ self.k ∷ self.found ∷ self.count ∷ [] }
+    {
+        [self.n, self.m, self.k, self.found, self.count]
+    }
 }
 
 // The line that tells a refusal.
@@ -36,11 +54,14 @@ pub fn refusal(number: u64, place: u64) -> Line
         × (result.len ≡ length (refusal_line number place)) }
 {
     let mut bytes = [0u8; 44];
-    let len = put_line(&mut bytes, 0, b'X', number, place);
-    Line {
-        bytes: bytes,
-        len: len,
-    }
+    let fields = [number, place];
+    let len = line_length(&fields);
+    let mut writer = Writer {
+        out: &mut bytes,
+        at: 0,
+    };
+    writer.put_line(b'X', &fields);
+    Line { bytes, len }
 }
 
 // The length of a listing.
@@ -48,27 +69,7 @@ pub fn text_length(heading: Heading, block: &[u64]) -> usize
     requires { Lies (block_at 0 heading.n) (length block.now) }
     ensures { result ≡ length (listing heading block.now) }
 {
-    let n_length = field_length(heading.n);
-    let m_length = field_length(heading.m);
-    let k_length = field_length(heading.k);
-    let found_length = field_length(heading.found);
-    let count_length = field_length(heading.count);
-    let lines_length = spans_length(block, heading.n as usize);
-    2 + n_length + m_length + k_length + found_length + count_length + lines_length
-}
-
-// Writes the `H` line to the front of a buffer; the answer is the offset behind it.
-fn put_heading(out: &mut [u8], heading: Heading) -> usize
-    requires { length (head_line heading) ≤ length out.old }
-    ensures { Written out.old 0 (head_line heading) out.new result }
-{
-    let behind_letter = put_byte(out, 0, b'H');
-    let behind_n = put_field(out, behind_letter, heading.n);
-    let behind_m = put_field(out, behind_n, heading.m);
-    let behind_k = put_field(out, behind_m, heading.k);
-    let behind_found = put_field(out, behind_k, heading.found);
-    let behind_count = put_field(out, behind_found, heading.count);
-    put_byte(out, behind_count, b'\n')
+    line_length(&heading.fields()) + spans_length(block, heading.n as usize)
 }
 
 // Writes a listing to the front of a buffer, and leaves the rest.
@@ -78,6 +79,7 @@ pub fn write(heading: Heading, block: &[u64], out: &mut [u8])
     ensures { out.new
         ≡ listing heading block.now ++ drop (length (listing heading block.now)) out.old }
 {
-    let head = put_heading(out, heading);
-    write_spans(block, heading.n as usize, out, head);
+    let mut writer = Writer { out, at: 0 };
+    writer.put_line(b'H', &heading.fields());
+    write_spans(block, heading.n as usize, &mut writer);
 }

@@ -1,40 +1,43 @@
 // The `S` lines of a block: one for each span whose bit is 1, row by row, measured and written.
+// Measuring and writing walk alike: one walk with a closure would have to carry the sum or the writer through its calls, and say of them
+// what the two contracts say.
 ghost use Rattle.std.specs.Prelude.{◌≡◌, ◌+◌, ◌*◌, ◌≤◌, length};
 ghost use Rattle.bits.specs.Bit.{bit_at};
 ghost use Rattle.table.specs.Layout.{block_at, Lies};
-ghost use Rattle.listing.specs.Marked.{is_marked, row_lines, block_lines, Next};
-ghost use Rattle.listing.specs.Written.{Written};
+ghost use Rattle.listing.specs.Marked.{is_marked, row_lines, block_lines, NextEnd};
+ghost use Rattle.listing.specs.Writing.{HasRoom, Puts};
 
-use crate::fields::{field_length, put_line};
+use crate::fields::{Writer, line_length};
 use table::Block;
 
-// The first end from `from` to n whose bit is 1 in a row, or a number beyond n. A number of the row that has no such bit is passed at once.
-fn next_end(row: &[u64], from: usize, n: usize) -> usize
-    requires { (length row.now ≡ 4) × (from ≤ 256) × (n ≤ 255) }
-    ensures { Next (bit_at row.now) from n result }
+// The first end from `from` to n whose bit is 1 in a row, if there is one. A number of the row that has no such bit is passed at once.
+fn next_end(row: &[u64; 4], from: usize, n: usize) -> Option<usize>
+    requires { (from ≤ 256) × (n ≤ 255) }
+    ensures { NextEnd (bit_at row.now) from n result }
 {
     let mut j = from;
+    // Each step goes to the next number's first bit: a range would count the numbers, and find the first of them again.
     while j <= n {
         let first = 64 * (j / 64);
-        let b = bits::first(row[j / 64], bits::one(j % 64) - 1);
-        if b < 64 {
-            return first + b;
+        if let Some(b) = bits::first(row[j / 64], bits::one(j % 64) - 1) {
+            let end = first + b;
+            return if end <= n { Some(end) } else { None };
         }
         j = first + 64;
     }
-    j
+    None
 }
 
 // The length of the lines of a row.
-fn row_length(row: &[u64], i: usize, n: usize) -> usize
-    requires { (length row.now ≡ 4) × (i ≤ n) × (n ≤ 255) }
+fn row_length(row: &[u64; 4], i: usize, n: usize) -> usize
+    requires { (i ≤ n) × (n ≤ 255) }
     ensures { (result ≡ length (row_lines (bit_at row.now) i n i)) × (result ≤ 44 * 256) }
 {
     let mut sum = 0;
-    let mut j = next_end(row, i, n);
-    while j <= n {
-        sum += 2 + field_length(i as u64) + field_length(j as u64);
-        j = next_end(row, j + 1, n);
+    let mut from = i;
+    while let Some(j) = next_end(row, from, n) {
+        sum += line_length(&[i as u64, j as u64]);
+        from = j + 1;
     }
     sum
 }
@@ -45,42 +48,34 @@ pub fn spans_length(block: &[u64], n: usize) -> usize
     ensures { (result ≡ length (block_lines (is_marked n block.now) n 0)) × (result ≤ 44 * 65536) }
 {
     let mut sum = 0;
-    let mut i = 0;
-    while i <= n {
-        let row = table::read_row(block, Block { first: 0, n: n }, i);
+    for i in 0..n + 1 {
+        let row = Block { first: 0, n }.read_row(block, i);
         sum += row_length(&row, i, n);
-        i += 1;
     }
     sum
 }
 
-// Writes the lines of a row; the answer is the offset behind them.
-fn write_row(row: &[u64], i: usize, n: usize, out: &mut [u8], at: usize) -> usize
-    requires row_len { (length row.now ≡ 4) × (i ≤ n) × (n ≤ 255) }
-    requires i_in_bounds { at + length (row_lines (bit_at row.now) i n i) ≤ length out.old }
-    ensures { Written out.old at (row_lines (bit_at row.now) i n i) out.new result }
+// Writes the lines of a row.
+fn write_row(row: &[u64; 4], i: usize, n: usize, writer: &mut Writer)
+    requires row_in_block { (i ≤ n) × (n ≤ 255) }
+    requires room { HasRoom writer.old (row_lines (bit_at row.now) i n i) }
+    ensures { Puts writer.old (row_lines (bit_at row.now) i n i) writer.new }
 {
-    let mut end = at;
-    let mut j = next_end(row, i, n);
-    while j <= n {
-        end = put_line(out, end, b'S', i as u64, j as u64);
-        j = next_end(row, j + 1, n);
+    let mut from = i;
+    while let Some(j) = next_end(row, from, n) {
+        writer.put_line(b'S', &[i as u64, j as u64]);
+        from = j + 1;
     }
-    end
 }
 
-// Writes the lines of a block for n events; the answer is the offset behind them.
-pub fn write_spans(block: &[u64], n: usize, out: &mut [u8], at: usize) -> usize
+// Writes the lines of a block for n events.
+pub fn write_spans(block: &[u64], n: usize, writer: &mut Writer)
     requires lies { Lies (block_at 0 n) (length block.now) }
-    requires n_in_bounds { at + length (block_lines (is_marked n block.now) n 0) ≤ length out.old }
-    ensures { Written out.old at (block_lines (is_marked n block.now) n 0) out.new result }
+    requires room { HasRoom writer.old (block_lines (is_marked n block.now) n 0) }
+    ensures { Puts writer.old (block_lines (is_marked n block.now) n 0) writer.new }
 {
-    let mut end = at;
-    let mut i = 0;
-    while i <= n {
-        let row = table::read_row(block, Block { first: 0, n: n }, i);
-        end = write_row(&row, i, n, out, end);
-        i += 1;
+    for i in 0..n + 1 {
+        let row = Block { first: 0, n }.read_row(block, i);
+        write_row(&row, i, n, writer);
     }
-    end
 }

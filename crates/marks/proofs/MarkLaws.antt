@@ -1,21 +1,19 @@
 -- Marks as numbers, two for each number of used events. Assumes nothing.
-use mathlib.Core.Path.{◌≡◌, refl, sym, ap, ap₂, ◌∙◌}
-use mathlib.Core.Bool.{true}
+use mathlib.Core.Path.{◌≡◌, sym, ap, ap₂, ◌∙◌}
 use mathlib.Core.Logic.{inl, inr, ⊎_elim}
-use mathlib.Core.List.{List}
-use Prim.Native.Nat.{ℕ, ◌+◌, ◌*◌, ◌/◌, ◌%◌, ◌^◌, ◌<◌}
+use mathlib.Core.List.{List, [], ◌∷◌}
+use Prim.Native.Nat.{ℕ, ◌+◌, ◌*◌, ◌/◌, ◌%◌, ◌<◌}
 use native.Mathlib.Omega.{arith}
 use lib.ListN.{length, get_or, set, length-set}
 use lib.Seq.{get_or-set_same, get_or-set_other}
-use lib.Bits.{bit_or}
 use Rattle.bits.specs.Bit.{has_bit, bit_at}
 use Rattle.bits.specs.Runs.{tally_below, Merged, Adds}
 use Rattle.bits.proofs.Digits.{same_or_not}
 use Rattle.bits.proofs.Laws.{adds_as}
 use Rattle.bits.proofs.Tally.{tally_same, tally_add}
-use Rattle.moves.proofs.RowLaws.{low_bit, high_bit, row_low, row_high, by_half, row_merged}
-use Rattle.levels.proofs.SetLaws.{or_zero, no_bit, zero_number, zero_set}
-use Rattle.marks.specs.Marks.{PlaceOf, StoredAt, MarkedAt, MarkedIn, NoneAt, Finished}
+use Rattle.bits.proofs.Laws.{low_bit, high_bit, by_half}
+use Rattle.moves.proofs.RowLaws.{row_low, row_high, row_merged}
+use Rattle.marks.specs.Marks.{PlaceOf, StoredAt, MarkedAt, MarkedIn}
 
 pub place_law : (e : List ℕ) {a b c : List ℕ} (j : ℕ) → Merged a (2 * j) (get_or e 0 0) b → Merged b (2 * j + 1) (get_or e 1 0) c
     → Adds a (PlaceOf e j) c
@@ -33,32 +31,19 @@ marked_law m j f g =
     (λ q u. let n = u.small in let y : q % 128 ≡ q = omega arith in (omega arith, rw y u.there))
     (row_merged m 0 j f g)
 
-none_law : (m : List ℕ) (j : ℕ) → bit_or (get_or m (2 * j) 0) (get_or m (2 * j + 1) 0) ≡ 0 → NoneAt m j
-none_law m j e =
-    let g = or_zero (get_or m (2 * j) 0) (get_or m (2 * j + 1) 0) e in
-    by_half (λ (s : ℕ). bit_at m (128 * j + s) ≡ true → ⊥)
-    (λ s l d. no_bit s (get_or m (2 * j) 0) g.0 (sym (row_low m j s l) ∙ d))
-    (λ s l d. no_bit s (get_or m (2 * j + 1) 0) g.1 (sym (row_high m j s l) ∙ d))
+-- two numbers of the marks as a set
+pub pair_law : (m : List ℕ) (j s : ℕ) → s < 128 → bit_at (get_or m (2 * j) 0 ∷ get_or m (2 * j + 1) 0 ∷ []) s ≡ bit_at m (128 * j + s)
+pair_law m j =
+    let p = get_or m (2 * j) 0 ∷ get_or m (2 * j + 1) 0 ∷ [] in
+    by_half (λ (s : ℕ). bit_at p s ≡ bit_at m (128 * j + s))
+    (λ s l. low_bit p s l ∙ sym (row_low m j s l))
+    (λ s l. high_bit p s l ∙ sym (row_high m j s l))
 
-pub finished_law : (m v : List ℕ) (j : ℕ)
-    → bit_or (bit_or (get_or m (2 * j) 0) (get_or m (2 * j + 1) 0)) (bit_or (get_or v 0 0) (get_or v 1 0)) ≡ 0 → Finished m v j
-finished_law m v j e =
-    let f = or_zero (bit_or (get_or m (2 * j) 0) (get_or m (2 * j + 1) 0)) (bit_or (get_or v 0 0) (get_or v 1 0)) e in
-    let h = or_zero (get_or v 0 0) (get_or v 1 0) f.1 in
-    record {
-      marked = none_law m j f.0;
-      coming = by_half (λ (s : ℕ). bit_at v s ≡ true → ⊥)
-          (λ s l d. no_bit s (get_or v 0 0) h.0 (sym (low_bit v s l) ∙ d))
-          (λ s l d. no_bit s (get_or v 1 0) h.1 (sym (high_bit v s l) ∙ d));
-    }
-
--- the places of number j, by its two numbers
-pub count_law : (a : List ℕ) (j : ℕ)
-    → tally_below 128 (λ (s : ℕ). bit_at a (128 * j + s))
-    ≡ tally_below 64 (λ (b : ℕ). has_bit b (get_or a (2 * j) 0)) + tally_below 64 (λ (b : ℕ). has_bit b (get_or a (2 * j + 1) 0))
-count_law a j =
-    tally_add 64 64 (λ (s : ℕ). bit_at a (128 * j + s))
-    ∙ ap₂ (λ (x y : ℕ). x + y) (tally_same 64 _ _ (row_low a j)) (tally_same 64 _ _ (row_high a j))
+-- the states of a set, by its two numbers
+pub count_law : (a : List ℕ)
+    → tally_below 128 (bit_at a) ≡ tally_below 64 (λ (b : ℕ). has_bit b (get_or a 0 0)) + tally_below 64 (λ (b : ℕ). has_bit b (get_or a 1 0))
+count_law a =
+    tally_add 64 64 (bit_at a) ∙ ap₂ (λ (x y : ℕ). x + y) (tally_same 64 _ _ (low_bit a)) (tally_same 64 _ _ (high_bit a))
 
 -- the places up to number j, and those of j
 pub tally_level : (b : List ℕ) (j : ℕ)
@@ -107,16 +92,3 @@ stored_adds {a} {e} {b} {j} inside h = record {
       (λ (n : q / 128 ≡ j → ⊥). inl (sym (h.other q n) ∙ d)) (same_or_not (q / 128) j);
   long = h.long;
 }
-
--- nothing is marked at number j, and no node is open: four numbers are 0
-pub finished_zero : (m v : List ℕ) (j : ℕ) → ((i : ℕ) → get_or m i 0 < 2 ^ 64) → ((i : ℕ) → get_or v i 0 < 2 ^ 64) → Finished m v j
-    → bit_or (bit_or (get_or m (2 * j) 0) (get_or m (2 * j + 1) 0)) (bit_or (get_or v 0 0) (get_or v 1 0)) ≡ 0
-finished_zero m v j a b f =
-    let low : (r : ℕ) → r < 64 → bit_at m (64 * (2 * j) + r) ≡ true → ⊥ = λ r l e.
-    let n : 64 * (2 * j) + r ≡ 128 * j + r = omega arith in f.marked r (omega arith) (rw n at e) in
-    let high : (r : ℕ) → r < 64 → bit_at m (64 * (2 * j + 1) + r) ≡ true → ⊥ = λ r l e.
-    let n : 64 * (2 * j + 1) + r ≡ 128 * j + (64 + r) = omega arith in f.marked (64 + r) (omega arith) (rw n at e) in
-    let w = zero_number m (2 * j) (a (2 * j)) low in
-    let x = zero_number m (2 * j + 1) (a (2 * j + 1)) high in
-    let y = zero_set v (b 0) (b 1) f.coming in
-    rw (w, x, y) refl

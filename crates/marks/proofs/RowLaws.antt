@@ -16,7 +16,7 @@ use borrow.Author.Tests.{lt-ltb, le-ltb, le-leb, lt-leb, leb-true, eq-eqb, ne_eq
 use Rattle.bits.specs.Bit.{has_bit, bit_at}
 use Rattle.bits.specs.Runs.{indicator}
 use Rattle.bits.proofs.Digits.{below_or_not, same_or_not, zero_has, has_or, has_xor, power_has, power_lacks, mask_has}
-use Rattle.marks.specs.declared.Target.{Target}
+use Rattle.marks.specs.declared.target.Target.{Target}
 use Rattle.marks.specs.Marks.{EndsBefore}
 use Rattle.marks.specs.Rows.{decide, judged, met, met_from, row_of, Shows}
 
@@ -115,20 +115,21 @@ module _ (marks : List ℕ) (o : Target) (i w : ℕ) where
       }
 
   -- from the end on nothing is marked
-  unmet : (end : ℕ) → EndsBefore marks end → o.left < 128 → (k : ℕ) → end ≤ k → met marks o k ≡ false
-  unmet end ends l k h =
+  unmet : (end : ℕ) → EndsBefore marks end → (k : ℕ) → end ≤ k → met marks o k ≡ false
+  unmet end ends k h =
+      let l = o.left_bound in
       let e : (128 * k + o.left) / 128 ≡ k = omega arith in
       ap (◌&& bit_at marks (128 * k + o.right))
       (eq-false_of_not-eq-true (λ (m : bit_at marks (128 * k + o.left) ≡ true). let n = ends (128 * k + o.left) m in omega arith))
 
-  pub gather_done : {k row : ℕ} (end : ℕ) → EndsBefore marks end → o.left < 128 → Gathering k row → min end (64 * w + 64) ≤ k
+  pub gather_done : {k row : ℕ} (end : ℕ) → EndsBefore marks end → Gathering k row → min end (64 * w + 64) ≤ k
       → Shows (met_from marks o i) w row
-  gather_done {k} {row} end ends l g h b m =
+  gather_done {k} {row} end ends g h b m =
       g.shows b m
       ∙ ⊎_elim (λ (z : 64 * w + b < k). rw (lt-ltb (64 * w + b) k z))
       (λ (z : k ≤ 64 * w + b).
       ap (λ (t : Bool). t && met_from marks o i (64 * w + b)) (le-ltb (64 * w + b) k z)
-      ∙ sym (ap (leb i (64 * w + b) &&◌) (unmet end ends l (64 * w + b) (omega arith)) ∙ and-false (leb i (64 * w + b))))
+      ∙ sym (ap (leb i (64 * w + b) &&◌) (unmet end ends (64 * w + b) (omega arith)) ∙ and-false (leb i (64 * w + b))))
       (below_or_not (64 * w + b) k)
 
 -- ---- the numbers below k
@@ -165,7 +166,7 @@ row_by : (marks : List ℕ) (o : Target) (c : Bool) (i n k : ℕ) → o.compleme
 unfolding row_of
 row_by marks o c i n k e = rw e refl
 
-module _ (marks : List ℕ) (o : Target) (i n end : ℕ) (ends : EndsBefore marks end) (l : o.left < 128) (short : end ≤ n + 1) where
+module _ (marks : List ℕ) (o : Target) (i n end : ℕ) (ends : EndsBefore marks end) (short : end ≤ n + 1) where
   -- a number up to n, or not
   row_plain : o.complement ≡ false → (k : ℕ) → met_from marks o i k ≡ row_of marks o i n k
   row_plain c k =
@@ -174,7 +175,7 @@ module _ (marks : List ℕ) (o : Target) (i n end : ℕ) (ends : EndsBefore mark
       ap (λ (t : Bool). leb i k && (t && met marks o k)) (sym (le-leb k n (omega arith)))
       ∙ ap (λ (t : Bool). leb i k && (leb k n && t)) (sym (plain (bit_at marks (128 * k + o.left)) (bit_at marks (128 * k + o.right)))))
       (λ (h : n + 1 ≤ k).
-      ap (leb i k &&◌) (unmet marks o i 0 end ends l k (omega arith))
+      ap (leb i k &&◌) (unmet marks o i 0 end ends k (omega arith))
       ∙ sym (ap (λ (t : Bool). leb i k && (t && decide (bit_at marks (128 * k + o.left)) (bit_at marks (128 * k + o.right)) false))
       (lt-leb k n (omega arith))))
       (below_or_not k (n + 1))
@@ -192,7 +193,7 @@ module _ (marks : List ℕ) (o : Target) (i n end : ℕ) (ends : EndsBefore mark
       (differs (met marks o k) ∙ sym (turned (bit_at marks (128 * k + o.left)) (bit_at marks (128 * k + o.right)))))
       (λ (z : n + 1 ≤ k).
       rw (le-leb i k h, le-ltb k (n + 1) z, le-ltb k i h, lt-leb k n (omega arith))
-      (ap (λ (t : Bool). xor t false) (unmet marks o i 0 end ends l k (omega arith))))
+      (ap (λ (t : Bool). xor t false) (unmet marks o i 0 end ends k (omega arith))))
       (below_or_not k (n + 1)))
       (below_or_not k i)
       ∙ sym (row_by marks o true i n k c)

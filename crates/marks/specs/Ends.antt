@@ -4,7 +4,7 @@ use Rattle.bits.specs.Bit.{bit_at}
 use Rattle.bits.specs.Runs.{tally_below, Adds}
 use Rattle.table.specs.Layout.{block_at, RowSpan}
 use Rattle.levels.specs.Sets.{Disjoint, LetterExit}
-use Rattle.marks.specs.declared.Target.{Target}
+use Rattle.marks.specs.declared.target.Target.{Target}
 use Rattle.marks.specs.Marks.{StoredAt}
 use Rattle.marks.specs.Rows.{row_of}
 

@@ -1,7 +1,7 @@
 -- Marked places of a walk. A place is a number p: state p % 128 where p / 128 events are used. Assumes nothing.
 use Rattle.std.specs.Prelude.{ℕ, ◌+◌, ◌-◌, ◌*◌, ◌/◌, ◌%◌, ◌<◌, ◌≡◌, List, ◌⊎◌, true, length}
 use Rattle.bits.specs.Bit.{bit_at}
-use Rattle.marks.specs.declared.Target.{Target}
+use Rattle.marks.specs.declared.target.Target.{Target}
 
 -- q is the place of a state of the set, at number j
 pub record PlaceOf (set : List ℕ) (j q : ℕ) : Type 0 where

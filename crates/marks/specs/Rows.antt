@@ -1,7 +1,7 @@
 -- The row of a start, as the marks of its walk have it. Assumes nothing.
 use Rattle.std.specs.Prelude.{ℕ, ◌+◌, ◌*◌, ◌<◌, ◌≡◌, List, Bool, true, false, not, ◌&&◌, leb}
 use Rattle.bits.specs.Bit.{has_bit, bit_at}
-use Rattle.marks.specs.declared.Target.{Target}
+use Rattle.marks.specs.declared.target.Target.{Target}
 
 -- both exits are reached, or, for a complement, not both are
 abbrev pub decide : (left right complement : Bool) → Bool

@@ -1,56 +1,54 @@
 // A start whose walk goes no further than its initial states.
-ghost use Rattle.std.specs.Prelude.{◌≡◌, true, false, ◌&&◌, ◌↔◌, ℕ, ◌+◌, ◌*◌, ◌%◌, ◌<◌, ◌≤◌, length, eqb};
+ghost use Rattle.std.specs.Prelude.{◌≡◌, true, false, ◌&&◌, ◌↔◌, ℕ, ◌+◌, ◌*◌, ◌%◌, ◌<◌, ◌≤◌, length, eqb, is_none};
 ghost use Rattle.bits.specs.Bit.{bit_at};
 ghost use Rattle.bits.specs.Runs.{indicator};
-ghost use Rattle.levels.specs.AutomatonParts.{closed_part, letter_part, special_part};
-ghost use Rattle.levels.specs.Sets.{Reflexive, Transitive};
 ghost use Rattle.table.specs.Layout.{block_at, Lies};
 ghost use Rattle.marks.specs.Rows.{met};
 ghost use Rattle.marks.specs.Ends.{Initial, EndsThere, EndedRow};
+ghost use Rattle.marks.specs.Works.{count_of, HasLimit};
 
-use crate::{Tally, Target, add_marked, count_marked, store};
+use crate::Marks;
+use crate::counting::Work;
+use crate::target::Target;
+use levels::States;
+use levels::automaton::Automaton;
 use table::Block;
 
 // The states that free moves lead to from where the target's walks begin; they are the same for every start.
-pub fn initial_states(automaton: &[u64], target: Target) -> [u64; 2]
-    requires automaton_len { (length automaton.now ≡ 834) × (0 < target.left) × (target.left < 128)
-        × (0 < target.right) × (target.right < 128) }
-    requires reflexive { Reflexive (closed_part automaton.now) }
-    requires transitive { Transitive (closed_part automaton.now) }
-    ensures { Initial (closed_part automaton.now) target result }
+pub fn initial_states(automaton: &Automaton, target: Target) -> States
+    ensures { Initial automaton.now.closed target result }
 {
-    let left = target.left;
-    let right = target.right;
     let mut entries = [0u64; 2];
-    bits::put_in_two(&mut entries, left - 1);
-    bits::put_in_two(&mut entries, right - 1);
-    levels::closure(automaton, &entries)
+    bits::put_in_two(&mut entries, target.left.saturating_sub(1));
+    bits::put_in_two(&mut entries, target.right.saturating_sub(1));
+    automaton.closure(&entries)
 }
 
 // Tells that a walk that is at the states of a set at number i goes no further, and that its target is no complement.
-pub fn ends_there(automaton: &[u64], word: &[u8], set: &[u64], target: Target, i: usize) -> bool
-    requires automaton_len { (length automaton.now ≡ 834) × (length set.now ≡ 2) × (i ≤ length word.now) }
-    requires by_index { (e s : ℕ) → s < 128 → bit_at (letter_part automaton.now) (128 * e + s) ≡ true → s % 2 ≡ 0 }
+pub fn ends_there(
+    automaton: &Automaton,
+    word: &[u8],
+    set: &States,
+    target: Target,
+    i: usize,
+) -> bool
+    requires i_bound { i ≤ length word.now }
     ensures { (result ≡ true) ↔ ((target.complement ≡ false) × EndsThere
-        (letter_part automaton.now) (special_part automaton.now) word.now i set.now) }
+        automaton.now.letters automaton.now.specials word.now i set.now) }
 {
-    let complement = target.complement;
-    if complement {
-        return false;
-    }
-    if levels::enters_special(automaton, set) {
+    if target.complement || automaton.enters_special(set) {
         return false;
     }
     if i == word.len() {
         return true;
     }
-    let next = levels::next_states(automaton, set, word[i]);
-    levels::is_empty(&next)
+    levels::is_empty(&automaton.next_states(set, word[i]))
 }
 
 // 1 where the state x is in the set, else 0.
-fn in_set(set: &[u64], x: usize) -> u64
-    requires { (length set.now ≡ 2) × (x < 128) }
+#[tactic(auto, using(crate::proofs::RowLaws::in_low, crate::proofs::RowLaws::in_high))]
+fn in_set(set: &States, x: usize) -> u64
+    requires { x < 128 }
     ensures { result ≡ indicator (bit_at set.now x) }
 {
     if x < 64 {
@@ -60,48 +58,39 @@ fn in_set(set: &[u64], x: usize) -> u64
 }
 
 // The row of start i of a target that is no complement, after a walk that left no marks but at number i.
-fn row_at_start(marks: &[u64], target: Target, i: usize) -> [u64; 4]
-    requires { (length marks.now ≡ 512) × (i < 256) × (target.left < 128) × (target.right < 128) }
-    ensures { (k : ℕ) → k < 256 → bit_at result k ≡ (eqb k i && met marks.now target i) }
+fn row_at_start(marks: &Marks, target: Target, i: usize) -> [u64; 4]
+    requires { i < 256 }
+    ensures { (k : ℕ) → k < 256 → bit_at result k ≡ (eqb k i && met marks.now.places target i) }
 {
-    let mut states = [0u64; 2];
-    add_marked(marks, i, &mut states);
-    let left = target.left;
-    let right = target.right;
+    let states = marks.states_at(i);
     let mut row = [0u64; 4];
-    row[i / 64] = (in_set(&states, left) & in_set(&states, right)) << (i % 64);
+    row[i / 64] = (in_set(&states, target.left) & in_set(&states, target.right)) << (i % 64);
     row
 }
 
 // Fills the row of a start i of a target that is no complement, where a walk goes no further than its initial states.
 pub fn fill_ended(
     table: &mut [u64],
-    initial: &[u64],
+    initial: &States,
     target: Target,
     i: usize,
     n: usize,
-    count: u64,
-    limit: u64,
-) -> Tally
+    work: Work,
+) -> Option<Work>
     requires lies { Lies (block_at target.first n) (length table.old) }
-    requires initial_len { (length initial.now ≡ 2) × (i ≤ n) × (count ≤ limit) × (target.left < 128) × (target.right < 128) }
+    requires i_le_n { i ≤ n }
     requires complement_value { target.complement ≡ false }
-    ensures { EndedRow table.old initial.now target i n count limit table.new result.count result.spent }
+    ensures ended { EndedRow table.old initial.now target i n work.count work.limit table.new (count_of work.limit result) (is_none result) }
+    ensures limit { HasLimit work.limit result }
 {
-    let mut marks = [0u64; 512];
-    store(&mut marks, initial, i);
-    let more = count_marked(&marks, i);
-    if limit - count < more {
-        return Tally {
-            count: limit,
-            spent: true,
-        };
-    }
+    let mut marks = Marks::new();
+    marks.store(initial, i);
+    let work = work.add(marks.count_at(i))?;
     let row = row_at_start(&marks, target, i);
-    let first = target.first;
-    table::add_row(table, Block { first: first, n: n }, i, &row);
-    Tally {
-        count: count + more,
-        spent: false,
-    }
+    let block = Block {
+        first: target.first,
+        n,
+    };
+    block.add_row(table, i, &row);
+    Some(work)
 }

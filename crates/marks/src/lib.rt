@@ -2,91 +2,99 @@
 // number j, where j events are used, are elements 2 * j and 2 * j + 1 of the marks, one bit a state.
 #![tactic(auto)]
 
+pub mod counting;
 pub mod ends;
 pub mod rows;
 pub mod steps;
+pub mod target;
 
-ghost use Rattle.std.specs.Prelude.{◌≡◌, true, ◌↔◌, ℕ, ◌+◌, ◌*◌, ◌≤◌, ◌<◌, length};
-ghost use Rattle.bits.specs.Bit.{has_bit, bit_at};
+ghost use Rattle.std.specs.Prelude.{◌≡◌, true, ◌↔◌, ℕ, ◌+◌, ◌*◌, ◌≤◌, ◌<◌, replicate};
+ghost use Rattle.bits.specs.Bit.{bit_at};
 ghost use Rattle.bits.specs.Runs.{tally_below, Adds};
 ghost use Rattle.marks.specs.Marks.{StartsAt, PlaceOf, StoredAt, MarkedAt, Finished};
 
-// What an owner's walks fill: they begin before the exits left and right and end at them; the first number of the block; whether it has
-// the spans at which they end or those at which they do not.
-#[derive(Clone, Copy)]
-pub struct Target {
-    pub first: usize,
-    pub left: usize,
-    pub right: usize,
-    pub complement: bool,
-}
+use crate::target::Target;
+use levels::States;
 
-// What has been counted, or the limit where it is spent: where the next places would be more than it allows.
-#[derive(Clone, Copy)]
-pub struct Tally {
-    pub count: u64,
-    pub spent: bool,
-}
-
-// Marks where a walk of the target from start i begins.
-pub fn mark_start(marks: &mut [u64], target: Target, i: usize)
-    requires { (length marks.old ≡ 512) × (i < 256) × (0 < target.left) × (target.left < 128)
-        × (0 < target.right) × (target.right < 128) }
-    ensures { Adds marks.old (StartsAt target i) marks.new }
+// How many states a set has.
+fn size(set: &States) -> u64
+    ensures { (result ≡ tally_below 128 (bit_at set.now)) × (result ≤ 128) }
 {
-    let left = target.left;
-    let right = target.right;
-    bits::put(marks, 128 * i + (left - 1));
-    bits::put(marks, 128 * i + (right - 1));
+    u64::from(set[0].count_ones()) + u64::from(set[1].count_ones())
 }
 
-// Adds the states that are marked at number j to a set.
-pub fn add_marked(marks: &[u64], j: usize, set: &mut [u64])
-    requires { (length marks.now ≡ 512) × (j < 256) × (length set.old ≡ 2) }
-    ensures { Adds set.old (MarkedAt marks.now j) set.new }
-{
-    bits::merge(set, 0, marks[2 * j]);
-    bits::merge(set, 1, marks[2 * j + 1]);
+// The places of one walk.
+#[derive(Drop)]
+pub struct Marks {
+    pub places: [u64; 512],
 }
 
-// Marks the states of a set at number j.
-pub fn mark(marks: &mut [u64], set: &[u64], j: usize)
-    requires { (length marks.old ≡ 512) × (length set.now ≡ 2) × (j < 256) }
-    ensures { Adds marks.old (PlaceOf set.now j) marks.new }
-{
-    bits::merge(marks, 2 * j, set[0]);
-    bits::merge(marks, 2 * j + 1, set[1]);
-}
+impl Marks {
+    // Nothing is marked.
+    pub fn new() -> Marks
+        ensures { result.places ≡ replicate 512 0 }
+    {
+        Marks { places: [0; 512] }
+    }
 
-// Stores a set at number j in place of what is marked there: no join, so that a compiler sees what is never read of the marks, which it need
-// not clear, and counts the two numbers of a set at once.
-pub fn store(marks: &mut [u64], set: &[u64], j: usize)
-    requires { (length marks.old ≡ 512) × (length set.now ≡ 2) × (j < 256) }
-    ensures { StoredAt marks.old set.now j marks.new }
-{
-    marks[2 * j] = set[0];
-    marks[2 * j + 1] = set[1];
-}
+    // Marks where a walk of the target from start i begins.
+    pub fn mark_start(&mut self, target: Target, i: usize)
+        requires { i < 256 }
+        ensures { Adds self.old.places (StartsAt target i) self.new.places }
+    {
+        bits::put(&mut self.places, 128 * i + target.left.saturating_sub(1));
+        bits::put(&mut self.places, 128 * i + target.right.saturating_sub(1));
+    }
 
-// The number of ones.
-fn ones(x: u64) -> u64
-    ensures { (result ≡ tally_below 64 (λ (b : ℕ). has_bit b x)) × (result ≤ 64) }
-{
-    u64::count_ones(x) as u64
-}
+    // The states that are marked at number j.
+    pub fn states_at(&self, j: usize) -> States
+        requires { j < 256 }
+        ensures { (s : ℕ) → s < 128 → bit_at result s ≡ bit_at self.now.places (128 * j + s) }
+    {
+        [self.places[2 * j], self.places[2 * j + 1]]
+    }
 
-// How many places are marked at number j.
-pub fn count_marked(marks: &[u64], j: usize) -> u64
-    requires { (length marks.now ≡ 512) × (j < 256) }
-    ensures { (result ≡ tally_below 128 (λ (s : ℕ). bit_at marks.now (128 * j + s))) × (result ≤ 128) }
-{
-    ones(marks[2 * j]) + ones(marks[2 * j + 1])
-}
+    // Adds the states that are marked at number j to a set.
+    pub fn add_to(&self, j: usize, set: &mut States)
+        requires { j < 256 }
+        ensures { Adds set.old (MarkedAt self.now.places j) set.new }
+    {
+        bits::merge(set, 0, self.places[2 * j]);
+        bits::merge(set, 1, self.places[2 * j + 1]);
+    }
 
-// Tells that a walk goes no further: nothing is marked at number j, and no special node is open.
-pub fn is_finished(marks: &[u64], opened: &[u64], j: usize) -> bool
-    requires { (length marks.now ≡ 512) × (length opened.now ≡ 2) × (j < 256) }
-    ensures { (result ≡ true) ↔ Finished marks.now opened.now j }
-{
-    (marks[2 * j] | marks[2 * j + 1]) | (opened[0] | opened[1]) == 0
+    // Marks the states of a set at number j.
+    pub fn mark(&mut self, set: &States, j: usize)
+        requires { j < 256 }
+        ensures { Adds self.old.places (PlaceOf set.now j) self.new.places }
+    {
+        bits::merge(&mut self.places, 2 * j, set[0]);
+        bits::merge(&mut self.places, 2 * j + 1, set[1]);
+    }
+
+    // Stores a set at number j in place of what is marked there: no join, so that a compiler sees what is never read of the marks, which it
+    // need not clear, and counts the two numbers of a set at once.
+    pub fn store(&mut self, set: &States, j: usize)
+        requires { j < 256 }
+        ensures { StoredAt self.old.places set.now j self.new.places }
+    {
+        self.places[2 * j] = set[0];
+        self.places[2 * j + 1] = set[1];
+    }
+
+    // How many places are marked at number j.
+    pub fn count_at(&self, j: usize) -> u64
+        requires { j < 256 }
+        ensures { (result ≡ tally_below 128 (λ (s : ℕ). bit_at self.now.places (128 * j + s))) × (result ≤ 128) }
+    {
+        size(&self.states_at(j))
+    }
+
+    // Tells that a walk goes no further: nothing is marked at number j, and no special node is open.
+    pub fn is_finished(&self, opened: &States, j: usize) -> bool
+        requires { j < 256 }
+        ensures { (result ≡ true) ↔ Finished self.now.places opened.now j }
+    {
+        levels::is_empty(&self.states_at(j)) && levels::is_empty(opened)
+    }
 }

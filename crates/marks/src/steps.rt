@@ -1,57 +1,47 @@
 // One number of used events: its places marked and counted, and the next event read.
-ghost use Rattle.std.specs.Prelude.{◌≡◌, true, ℕ, ◌+◌, ◌*◌, ◌%◌, ◌≤◌, ◌<◌, length};
+ghost use Rattle.std.specs.Prelude.{◌≡◌, true, ℕ, ◌+◌, ◌*◌, ◌%◌, ◌≤◌, ◌<◌, length, is_none};
 ghost use Rattle.bits.specs.Bit.{bit_at};
 ghost use Rattle.bits.specs.Runs.{Adds};
-ghost use Rattle.levels.specs.AutomatonParts.{letter_part};
 ghost use Rattle.marks.specs.Marks.{MarkedIn};
 ghost use Rattle.marks.specs.Steps.{NextExit, Advanced};
+ghost use Rattle.marks.specs.Works.{count_of, HasLimit};
 
-use crate::{Tally, count_marked, mark, store};
+use crate::Marks;
+use crate::counting::Work;
+use levels::States;
+use levels::automaton::Automaton;
 
 // Reads event j of the word, if there is one: marks the exits of the nodes that fit it at the number after j.
-fn read_next(automaton: &[u64], word: &[u8], marks: &mut [u64], set: &[u64], j: usize)
-    requires automaton_len { (length automaton.now ≡ 834) × (length marks.old ≡ 512) × (length set.now ≡ 2) }
+fn read_next(automaton: &Automaton, word: &[u8], marks: &mut Marks, set: &States, j: usize)
     requires j_in_bounds { (j ≤ length word.now) × (length word.now ≤ 255) }
-    requires by_index { (e s : ℕ) → s < 128 → bit_at (letter_part automaton.now) (128 * e + s) ≡ true → s % 2 ≡ 0 }
-    ensures { Adds marks.old
-        (NextExit (letter_part automaton.now) word.now set.now j) marks.new }
+    ensures { Adds marks.old.places
+        (NextExit automaton.now.letters word.now set.now j) marks.new.places }
 {
-    if j == word.len() {
-        return;
+    if j < word.len() {
+        let next = automaton.next_states(set, word[j]);
+        marks.mark(&next, j + 1);
     }
-    let next = levels::next_states(automaton, set, word[j]);
-    mark(marks, &next, j + 1);
 }
 
-// Marks the states of the set, which has all that are marked there, at number j, counts what is marked there, and reads the next event, unless the limit is passed.
+// Marks the states of the set, which has all that are marked there, at number j, counts what is marked there, and reads the next event, unless
+// the limit is passed.
 pub fn advance(
-    automaton: &[u64],
+    automaton: &Automaton,
     word: &[u8],
-    marks: &mut [u64],
-    set: &[u64],
+    marks: &mut Marks,
+    set: &States,
     j: usize,
-    count: u64,
-    limit: u64,
-) -> Tally
-    requires automaton_len { (length automaton.now ≡ 834) × (length marks.old ≡ 512) × (length set.now ≡ 2) }
-    requires j_in_bounds { (j ≤ length word.now) × (length word.now ≤ 255) × (count ≤ limit) }
-    requires marked_in { MarkedIn marks.old set.now j }
-    requires by_index { (e s : ℕ) → s < 128 → bit_at (letter_part automaton.now) (128 * e + s) ≡ true → s % 2 ≡ 0 }
-    ensures { Advanced
-        (letter_part automaton.now) word.now set.now j count limit
-        marks.old marks.new result.count result.spent }
+    work: Work,
+) -> Option<Work>
+    requires j_in_bounds { (j ≤ length word.now) × (length word.now ≤ 255) }
+    requires marked_in { MarkedIn marks.old.places set.now j }
+    ensures advanced { Advanced
+        automaton.now.letters word.now set.now j work.count work.limit
+        marks.old.places marks.new.places (count_of work.limit result) (is_none result) }
+    ensures limit { HasLimit work.limit result }
 {
-    store(marks, set, j);
-    let more = count_marked(marks, j);
-    if limit - count < more {
-        return Tally {
-            count: limit,
-            spent: true,
-        };
-    }
+    marks.store(set, j);
+    let work = work.add(marks.count_at(j))?;
     read_next(automaton, word, marks, set, j);
-    Tally {
-        count: count + more,
-        spent: false,
-    }
+    Some(work)
 }

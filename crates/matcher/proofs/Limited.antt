@@ -1,7 +1,7 @@
 -- A filled table, or a spent limit, as the answer. Assumes nothing.
 use Prim.Native.Nat.{ℕ, ◌≤◌, ◌<◌}
 use mathlib.Core.Path.{◌≡◌, sym, ap, ◌∙◌}
-use mathlib.Core.Bool.{Bool, true, false, false≢true, true≢false}
+use mathlib.Core.Bool.{Bool, false, false≢true}
 use mathlib.Core.Logic.{⊎_elim}
 use mathlib.Core.List.{List, ◌++◌, append_assoc}
 use lib.ListN.{length, drop, take}
@@ -18,7 +18,7 @@ use Rattle.owners.specs.Filling.{FilledTable}
 use Rattle.owners.proofs.Tables.{placed_table}
 use Rattle.matcher.specs.MatchAnswer.{values}
 use Rattle.matcher.specs.MatchComputed.{limited}
-use Rattle.matcher.proofs.Tested.{at_spent, at_acceptance}
+use Rattle.matcher.proofs.Tested.{at_acceptance}
 
 -- the ones of the first block, counted in the whole table
 pub found_counted : (w : Word) (t : Tree) (rest : List ℕ) → ones_of (take (block_length (length w)) (table w t ++ rest)) ≡ found w t
@@ -30,12 +30,6 @@ found_counted w t rest =
 module _ (t : Tree) (w : Word) (limit need special : ℕ) (lent b old : List ℕ) (count : ℕ) {spent : Bool}
     (f : FilledTable t w limit 0 special lent b count spent) (e : need ≡ need_of (specials t) (length w)) (l : length lent ≡ need)
     (s : special ≡ block_length (length w)) where
-  pub limit_over : spent ≡ true → values 10 0 0 limit (b ++ drop need old) ≡ limited t w limit old
-  limit_over d =
-      ⊎_elim (λ (h : limit < full_count w t). rw (at_spent t w limit old h) (simp (e, (f.over h).2, l)))
-      (λ (h : full_count w t ≤ limit). absurd (true≢false (sym d ∙ (f.within h).0)))
-      (below_or_not limit (full_count w t))
-
   pub limit_kept : spent ≡ false
       → values 0 0 (ones_of (take special (b ++ drop need old))) count (b ++ drop need old) ≡ limited t w limit old
   limit_kept d =

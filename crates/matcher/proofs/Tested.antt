@@ -8,6 +8,7 @@ use lib.Dec.{ltb}
 use lib.ListN.{length}
 use borrow.Author.Tests.{lt-ltb, le-ltb, ltb-false}
 use Rattle.event.specs.Event.{Word}
+use Rattle.event.proofs.LeadingLaws.{first_other_is}
 use Rattle.event.proofs.Tests.{choose}
 use Rattle.expression.specs.Tree.{Tree, specials}
 use Rattle.work.specs.Count.{full_count}
@@ -60,6 +61,9 @@ module _ (k : ℕ) (w : Word) (old : List ℕ) where
 
       other : {n p : ℕ} → accepted 0 0 ≡ refused (suc n) p → ⊥
       other e = let z = ap (λ (f : Verdict). f.number) e in omega arith
+
+-- what `check_fit` answers after each test
+pub ruleset first_step = (first_other_is, at_length, at_foreign, at_table, at_fit)
 
 -- ---- the answer
 module _ (t : Tree) (w : Word) (limit : ℕ) (old : List ℕ) where

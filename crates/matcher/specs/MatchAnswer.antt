@@ -1,9 +1,8 @@
 -- The values of the judge's answers, with what stands in the table, by document 01. Assumes nothing.
-use Rattle.std.specs.Prelude.{ℕ, List}
+use Rattle.std.specs.Prelude.{ℕ, List, Result, Ok, Err}
 use Rattle.verdict.specs.Verdicts as verdict
+use Rattle.verdict.specs.declared.Judged.{Judged}
 use Rattle.verdict.specs.declared.Verdict.{Verdict}
-use Rattle.matcher.specs.declared.Outcome.{Outcome}
-use Rattle.matcher.specs.declared.Outcome.TheVariants as outcome
 use Rattle.matcher.specs.declared.Refusal.{Refusal}
 use Rattle.matcher.specs.declared.Refusal.TheVariants as why
 
@@ -35,10 +34,10 @@ abbrev pub told : Verdict → List ℕ → MatchAnswer
 told v b = values v.number v.place v.found v.count b
 
 -- number, place, found and count of what the code answers
-abbrev pub outcome_verdict : Outcome → Verdict
-outcome_verdict (outcome.Accepted f c) = verdict.accepted f c
-outcome_verdict (outcome.Refused r) = refusal_verdict r
+abbrev pub outcome_verdict : Result Judged Refusal → Verdict
+outcome_verdict (Ok j) = verdict.accepted j.found j.count
+outcome_verdict (Err r) = refusal_verdict r
 
 -- the values of what the code answers, with the table at exit
-abbrev pub match_values : Outcome → List ℕ → MatchAnswer
+abbrev pub match_values : Result Judged Refusal → List ℕ → MatchAnswer
 match_values o b = told (outcome_verdict o) b

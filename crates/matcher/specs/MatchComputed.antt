@@ -1,6 +1,6 @@
 -- What the judge answers of a rule that was read, a word and a limit, and what it leaves in the table, computed. Assumes nothing.
 -- That it is the one answer which has `MatchMeaning` is `answer_means` in proofs/Answered and `answer_is` in proofs/Determined.
-use Rattle.std.specs.Prelude.{ℕ, List, ◌++◌, cond, eqb, ltb, length, drop, replicate}
+use Rattle.std.specs.Prelude.{ℕ, List, Result, Ok, Err, ◌++◌, cond, eqb, ltb, length, drop, replicate}
 use Rattle.event.specs.Event.{Word, is_event}
 use Rattle.event.specs.Leading.{leading}
 use Rattle.expression.specs.Tree.{Tree, specials}
@@ -11,8 +11,7 @@ use Rattle.verdict.specs.Verdicts.{accepted}
 use Rattle.verdict.specs.declared.Verdict.{Verdict}
 use Rattle.matcher.specs.MatchAnswer.{MatchAnswer, values, told, refusal_verdict}
 use Rattle.matcher.specs.declared.Refusal.TheVariants as why
-use Rattle.matcher.specs.declared.Fit.{Fit}
-use Rattle.matcher.specs.declared.Fit.TheVariants as fit
+use Rattle.matcher.specs.declared.Refusal.{Refusal}
 
 -- ---- the first step
 -- the offset of the first byte that is no event; the length where there is none
@@ -29,9 +28,9 @@ fit_answer k w old =
     (cond (ltb (length old) (need_of k (length w))) (refusal_verdict why.ShortTable) (accepted 0 0)))
 
 -- the same of what the code answers
-abbrev pub fit_values : Fit → Verdict
-fit_values fit.Fits = accepted 0 0
-fit_values (fit.Unfit r) = refusal_verdict r
+abbrev pub fit_values : Result (Unit {0}) Refusal → Verdict
+fit_values (Ok _) = accepted 0 0
+fit_values (Err r) = refusal_verdict r
 
 -- ---- the second step
 -- 01: "On 10 the needed numbers of the table are all 0 and the reported count is the limit"; "those beyond are never touched"

@@ -7,6 +7,7 @@ use Rattle.day.specs.DayFile.{DayEvent}
 use Rattle.day.specs.DayLines.{LinesResult, stopped, events}
 use Rattle.day.specs.DayAnswer.{DayAnswer, refusal_verdict, told}
 use Rattle.day.specs.DayComputed.{day_events, answered}
+use Rattle.day.specs.declared.Refusal.{Refusal}
 use Rattle.merge.specs.Merged.{FileEvent, of_first, of_second, event_of}
 
 -- ---- events
@@ -45,6 +46,14 @@ unfoldable pub merge_answer : List ℕ → List ℕ → List ℕ → List ℕ �
 merge_answer s t ls ss = after_files (day_events s) (day_events t) ls ss
 
 -- ---- what the functions work on
+-- the event of a second and a letter
+abbrev pub event : ℕ → ℕ → DayEvent
+event x c = record { second = x; letter = c }
+
+-- the file is refused, with number and place of this refusal
+abbrev pub IsRefused : List ℕ → Refusal → Type 0
+IsRefused s r = (w : Refusal) × (day_events s ≡ stopped w) × (refusal_verdict w ≡ refusal_verdict r)
+
 -- the events whose letters and seconds these are, as far as both go
 unfoldable pub paired : List ℕ → List ℕ → List DayEvent
 paired [] xs = []

@@ -1,52 +1,72 @@
 // The events of two days, stored as those of one.
-ghost use Rattle.std.specs.Prelude.{◌≡◌, map, ◌+◌, ◌≤◌, length};
+ghost use Rattle.std.specs.Prelude.{◌≡◌, ◌∷◌, map, ◌+◌, ◌≤◌, length};
 ghost use Rattle.std.proofs.lemmas.List.Edits.{sets};
 ghost use Rattle.day.specs.DayFile.{letter_of, second_of};
-ghost use Rattle.merge.specs.MergeComputed.{joined, paired, first_is_next, Aligned};
+ghost use Rattle.merge.specs.MergeComputed.{joined, paired, event, first_is_next, Aligned};
+
+// A day's events, or what is left of them: as many letters as seconds.
+#[derive(Clone, Copy)]
+pub struct Day<'a> {
+    pub letters: &'a [u8],
+    pub seconds: &'a [u32],
+    ghost aligned: { Aligned letters.now seconds.now },
+}
+
+impl<'a> Day<'a> {
+    // Takes the first event, its letter and its second, from the day.
+    fn take(&mut self) -> (u8, u32)
+        requires { 1 ≤ length self.old.letters.now }
+        ensures { paired self.old.letters.now self.old.seconds.now
+            ≡ event result.1 result.0 ∷ paired self.new.letters.now self.new.seconds.now }
+    {
+        let first = (self.letters[0], self.seconds[0]);
+        *self = Day {
+            letters: &self.letters[1..],
+            seconds: &self.seconds[1..],
+        };
+        first
+    }
+}
 
 // Whether the next event is the first file's, by the seconds that are left of each file.
 fn first_is_next(seconds1: &[u32], seconds2: &[u32]) -> bool
     ensures { result ≡ first_is_next seconds1.now seconds2.now }
 {
-    if seconds1.len() == 0 {
-        return false;
+    match (seconds1.first(), seconds2.first()) {
+        (Some(second1), Some(second2)) => second1 <= second2,
+        (left1, _) => left1.is_some(),
     }
-    if seconds2.len() == 0 {
-        return true;
-    }
-    seconds1[0] <= seconds2[0]
 }
 
-// Stores the events of both files, in the order of the one day.
-pub fn fill(
-    letters1: &[u8],
-    seconds1: &[u32],
-    letters2: &[u8],
-    seconds2: &[u32],
-    letters: &mut [u8],
-    seconds: &mut [u32],
-)
-    requires aligned { Aligned letters1.now seconds1.now × Aligned letters2.now seconds2.now }
-    requires letters2_in_bounds { (length letters1.now + length letters2.now ≤ length letters.old)
-        × (length letters1.now + length letters2.now ≤ length seconds.old) }
-    ensures letters_after { letters.new ≡ sets letters.old 0 (map letter_of
-        (joined (paired letters1.now seconds1.now) (paired letters2.now seconds2.now))) }
-    ensures seconds_after { seconds.new ≡ sets seconds.old 0 (map second_of
-        (joined (paired letters1.now seconds1.now) (paired letters2.now seconds2.now))) }
+// Takes the next event of the one day from the file whose it is.
+fn take_next(first: &mut Day, second: &mut Day) -> (u8, u32)
+    requires { 1 ≤ length first.old.letters.now + length second.old.letters.now }
+    ensures { joined (paired first.old.letters.now first.old.seconds.now) (paired second.old.letters.now second.old.seconds.now)
+        ≡ event result.1 result.0 ∷ joined (paired first.new.letters.now first.new.seconds.now)
+        (paired second.new.letters.now second.new.seconds.now) }
 {
-    let n = letters1.len() + letters2.len();
-    let mut i = 0;
-    let mut j = 0;
-    while i + j < n {
-        let k = i + j;
-        if first_is_next(&seconds1[i..], &seconds2[j..]) {
-            letters[k] = letters1[i];
-            seconds[k] = seconds1[i];
-            i += 1;
-        } else {
-            letters[k] = letters2[j];
-            seconds[k] = seconds2[j];
-            j += 1;
-        }
+    if first_is_next(first.seconds, second.seconds) {
+        first.take()
+    } else {
+        second.take()
+    }
+}
+
+// Stores the events of both days, in the order of the one day.
+pub fn fill(first: Day, second: Day, letters: &mut [u8], seconds: &mut [u32])
+    requires { (length first.letters.now + length second.letters.now ≤ length letters.old)
+        × (length first.letters.now + length second.letters.now ≤ length seconds.old) }
+    ensures letters_after { letters.new ≡ sets letters.old 0 (map letter_of
+        (joined (paired first.entry.letters.now first.entry.seconds.now) (paired second.entry.letters.now second.entry.seconds.now))) }
+    ensures seconds_after { seconds.new ≡ sets seconds.old 0 (map second_of
+        (joined (paired first.entry.letters.now first.entry.seconds.now) (paired second.entry.letters.now second.entry.seconds.now))) }
+{
+    let n = first.letters.len() + second.letters.len();
+    let mut left1 = first;
+    let mut left2 = second;
+    for i in 0..n {
+        let (letter, second) = take_next(&mut left1, &mut left2);
+        letters[i] = letter;
+        seconds[i] = second;
     }
 }

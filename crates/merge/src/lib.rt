@@ -4,29 +4,55 @@
 
 mod events;
 
-ghost use Rattle.std.specs.Prelude.{◌≡◌};
+ghost use Rattle.std.specs.Prelude.{◌≡◌, IfOk, IfErr};
+ghost use Rattle.day.specs.DayLines.{events};
 ghost use Rattle.day.specs.DayComputed.{day_events};
-ghost use Rattle.merge.specs.MergeAnswer.{outcome_verdict, event_count, merge_values};
-ghost use Rattle.merge.specs.MergeComputed.{after_first, after_both, merge_answer, paired, Aligned};
+ghost use Rattle.merge.specs.MergeAnswer.{refusal_verdict, merge_values};
+ghost use Rattle.merge.specs.MergeComputed.{after_both, merge_answer, paired, IsRefused};
 ghost use Rattle.merge.specs.MergeMeaning.{MergeMeaning};
+ghost use Rattle.merge.specs.declared.Refusal.TheVariants as why;
 
-use day::{Outcome as DayOutcome, Refusal as DayRefusal};
-use events::fill;
+use events::{Day, fill};
 use verdict::Verdict;
 
 // How many events a day has at most.
 const MOST_EVENTS: usize = 255;
 
-// Accepted, with the number of events; refused as the day reader refuses a file, or for its buffers; or refused for too many events together.
-#[derive(Clone, Copy)]
-pub enum Outcome {
-    Accepted(usize),
-    Refused(DayRefusal),
+// Why two files are refused: as the day reader refuses one of them, or for the buffers; or for too many events together.
+#[derive(Clone, Copy, PartialEq, Eq)]
+pub enum Refusal {
+    Day(day::Refusal),
     ManyEvents,
 }
 
-// Merges two day files by rising second, the first file's events first at equal seconds: all is judged before anything is written.
-pub fn merge(first: &[u8], second: &[u8], letters: &mut [u8], seconds: &mut [u32]) -> Outcome
+impl From<day::Refusal> for Refusal {
+    ghost from_gives = { λ refusal reason. reason ≡ why.Day refusal };
+
+    fn from(refusal: day::Refusal) -> Refusal {
+        Refusal::Day(refusal)
+    }
+}
+
+// Number and place of each refusal.
+impl From<Refusal> for Verdict {
+    ghost from_gives = { λ refusal verdict. verdict ≡ refusal_verdict refusal };
+
+    fn from(refusal: Refusal) -> Verdict {
+        match refusal {
+            Refusal::Day(reason) => Verdict::from(reason),
+            Refusal::ManyEvents => Verdict::refusal(22, 0),
+        }
+    }
+}
+
+// Merges two day files by rising second, the first file's events first at equal seconds, and answers how many events they have together: all is
+// judged before anything is written.
+pub fn merge(
+    first: &[u8],
+    second: &[u8],
+    letters: &mut [u8],
+    seconds: &mut [u32],
+) -> Result<usize, Refusal>
     ensures value { merge_values result letters.new seconds.new
         ≡ merge_answer first.now second.now letters.old seconds.old }
     ensures meaning { MergeMeaning first.now second.now letters.old seconds.old
@@ -34,89 +60,47 @@ pub fn merge(first: &[u8], second: &[u8], letters: &mut [u8], seconds: &mut [u32
 {
     let mut letters1 = [0u8; MOST_EVENTS];
     let mut seconds1 = [0u32; MOST_EVENTS];
-    match day::read(first, &mut letters1, &mut seconds1) {
-        DayOutcome::Refused(refusal1) => Outcome::Refused(refusal1),
-        DayOutcome::Accepted(n1) => merge_second(
-            &letters1[..n1],
-            &seconds1[..n1],
-            second,
-            letters,
-            seconds,
-        ),
-    }
-}
-
-// Reads the second file, and goes on to the events of both.
-fn merge_second(
-    letters1: &[u8],
-    seconds1: &[u32],
-    second: &[u8],
-    letters: &mut [u8],
-    seconds: &mut [u32],
-) -> Outcome
-    requires { Aligned letters1.now seconds1.now }
-    ensures { merge_values result letters.new seconds.new
-        ≡ after_first (paired letters1.now seconds1.now) (day_events second.now)
-        letters.old seconds.old }
-{
+    let day1 = read_day(first, &mut letters1, &mut seconds1)?;
     let mut letters2 = [0u8; MOST_EVENTS];
     let mut seconds2 = [0u32; MOST_EVENTS];
-    match day::read(second, &mut letters2, &mut seconds2) {
-        DayOutcome::Refused(refusal2) => Outcome::Refused(refusal2),
-        DayOutcome::Accepted(n2) => merge_events(
-            letters1,
-            seconds1,
-            &letters2[..n2],
-            &seconds2[..n2],
-            letters,
-            seconds,
-        ),
-    }
+    let day2 = read_day(second, &mut letters2, &mut seconds2)?;
+    merge_events(day1, day2, letters, seconds)
+}
+
+// Reads one of the files into buffers that have room for every day.
+fn read_day<'a>(
+    file: &[u8],
+    letters: &'a mut [u8; MOST_EVENTS],
+    seconds: &'a mut [u32; MOST_EVENTS],
+) -> Result<Day<'a>, day::Refusal>
+    ensures ok { IfOk result (λ d. day_events file.now ≡ events (paired d.letters.now d.seconds.now)) }
+    ensures err { IfErr result (λ r. IsRefused file.now r) }
+{
+    let n = day::read(file, letters, seconds)?;
+    Ok(Day {
+        letters: &letters[..n],
+        seconds: &seconds[..n],
+    })
 }
 
 // Writes the events of both, if they are few enough and the buffers long enough.
 fn merge_events(
-    letters1: &[u8],
-    seconds1: &[u32],
-    letters2: &[u8],
-    seconds2: &[u32],
+    first: Day,
+    second: Day,
     letters: &mut [u8],
     seconds: &mut [u32],
-) -> Outcome
-    requires { Aligned letters1.now seconds1.now × Aligned letters2.now seconds2.now }
+) -> Result<usize, Refusal>
     ensures { merge_values result letters.new seconds.new
-        ≡ after_both (paired letters1.now seconds1.now) (paired letters2.now seconds2.now)
+        ≡ after_both (paired first.entry.letters.now first.entry.seconds.now) (paired second.entry.letters.now second.entry.seconds.now)
         letters.old seconds.old }
 {
-    let n = letters1.len() + letters2.len();
+    let n = first.letters.len() + second.letters.len();
     if MOST_EVENTS < n {
-        return Outcome::ManyEvents;
+        return Err(Refusal::ManyEvents);
     }
     if letters.len() < n || seconds.len() < n {
-        return Outcome::Refused(DayRefusal::ShortBuffer);
+        return Err(Refusal::Day(day::Refusal::ShortBuffer));
     }
-    fill(letters1, seconds1, letters2, seconds2, letters, seconds);
-    Outcome::Accepted(n)
-}
-
-// Number, place, found and count of an answer.
-pub fn outcome_verdict(outcome: Outcome) -> Verdict
-    ensures { result ≡ outcome_verdict outcome }
-{
-    match outcome {
-        Outcome::Accepted(n) => verdict::acceptance(0, 0),
-        Outcome::Refused(refusal) => day::refusal_verdict(refusal),
-        Outcome::ManyEvents => verdict::refusal(22, 0),
-    }
-}
-
-// n, the number of events; 0 on a refusal.
-pub fn event_count(outcome: Outcome) -> usize
-    ensures { result ≡ event_count outcome }
-{
-    match outcome {
-        Outcome::Accepted(n) => n,
-        Outcome::Refused(refusal) => 0,
-        Outcome::ManyEvents => 0,
-    }
+    fill(first, second, letters, seconds);
+    Ok(n)
 }

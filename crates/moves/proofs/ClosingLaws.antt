@@ -5,70 +5,49 @@ use mathlib.Core.Logic.{◌⊎◌, inl, inr, ⊎_elim}
 use mathlib.Core.List.{List}
 use Prim.Native.Nat.{ℕ, ◌+◌, ◌-◌, ◌*◌, ◌/◌, ◌%◌, ◌≤◌, ◌<◌}
 use native.Mathlib.Omega.{arith}
-use lib.ListN.{get_or, replicate}
+use lib.ListN.{replicate}
 use Rattle.bits.specs.Bit.{bit_at}
-use Rattle.bits.specs.Runs.{tally_below, Put, Merged, Adds, First}
-use Rattle.bits.proofs.Digits.{below_or_not}
+use Rattle.bits.specs.Runs.{tally_below, Put, Adds, RowOf, InRow, NoneFresh, Fresh}
+use Rattle.std.proofs.lemmas.Bool.{cases_lt}
 use Rattle.bits.proofs.Laws.{put_adds, adds_none, adds_then, adds_as, zeros_bit}
 use Rattle.bits.proofs.Tally.{left_less}
 use Rattle.moves.specs.Reached.{start, after}
 use Rattle.moves.specs.Moves.{FreeMove, Leads, Closed}
-use Rattle.moves.specs.Closing.{NextState, Through, Followed, Completed, OnDiagonal, LeaveBelow}
+use Rattle.moves.specs.Closing.{Through, Followed, Completed, OnDiagonal, LeaveBelow}
 use Rattle.moves.proofs.Paths.{leads_on, leads_nowhere}
-use Rattle.moves.proofs.RowLaws.{low_bit, high_bit, row_low, row_high, by_half, row_merged}
 
 -- ---- a state of a row that is not followed yet
 
-module _ (c : List ℕ) (s : ℕ) (d : List ℕ) (low : ℕ) (f : First (get_or c (2 * s) 0) (get_or d 0 0) low) where
-  pub next_low : low < 64 → NextState c s d low
-  next_low l = record {
-    within = omega arith;
-    there = λ _. row_low c s low l ∙ f.there l;
-    fresh = λ _. low_bit d low l ∙ f.fresh l;
-    none = λ e. absurd (omega arith);
-  }
-
-  pub next_high : (high : ℕ) → First (get_or c (2 * s + 1) 0) (get_or d 1 0) high → 64 ≤ low → NextState c s d (64 + high)
-  next_high high g k =
-      let p = f.within in let q = g.within in
-      record {
-        within = omega arith;
-        there = λ v. let l : high < 64 = omega arith in row_high c s high l ∙ g.there l;
-        fresh = λ v. let l : high < 64 = omega arith in high_bit d high l ∙ g.fresh l;
-        none = λ e. by_half (λ (t : ℕ). bit_at c (128 * s + t) ≡ true → bit_at d t ≡ true)
-            (λ t l h. low_bit d t l ∙ f.below t (omega arith) (sym (row_low c s t l) ∙ h))
-            (λ t l h. high_bit d t l ∙ g.below t (omega arith) (sym (row_high c s t l) ∙ h));
-      }
-
 -- what is left of the states shrinks where one is followed that was not
-pub next_less : {c d e : List ℕ} {s r : ℕ} {P : ℕ → Type 0} → NextState c s d r → (r ≡ 128 → ⊥) → Adds d P e → P r
+pub next_less : {r d e : List ℕ} {k : ℕ} {P : ℕ → Type 0} → Fresh r d k → Adds d P e → P k
     → 128 - tally_below 128 (bit_at e) < 128 - tally_below 128 (bit_at d)
-next_less {d = d} {e = e} {r = r} n more f p =
-    let w = n.within in
-    let l : r < 128 = omega arith in
-    left_less 128 (bit_at d) (bit_at e) r f.old l (n.fresh l) (f.new r p)
+next_less {d = d} {e = e} {k = k} n f p = left_less 128 (bit_at d) (bit_at e) k f.old n.within n.fresh (f.new k p)
 
 -- ---- rows that are merged
 
-pub through_law : {a b c : List ℕ} (s k : ℕ)
-    → Merged a (2 * s) (get_or a (2 * k) 0) b → Merged b (2 * s + 1) (get_or a (2 * k + 1) 0) c → Adds a (Through a s k) c
-through_law {a} s k f g = adds_as (λ q u. record { row = u.0; second = u.1 }) (λ q u. (u.row, u.second)) (row_merged a s k f g)
+-- a bit of row k, in a number of another row
+of_row : (a r : List ℕ) (k q : ℕ) → RowOf a k r → bit_at r (q % 128) ≡ bit_at a (128 * k + q % 128)
+of_row a r k q e = e (q % 128) (omega arith)
+
+pub through_law : (a : List ℕ) {c r : List ℕ} (s k : ℕ) → RowOf a k r → Adds a (InRow s r) c → Adds a (Through a s k) c
+through_law a {r = r} s k e f =
+    adds_as (λ q u. record { row = u.place; second = sym (of_row a r k q e) ∙ u.there })
+    (λ q u. record { place = u.row; there = of_row a r k q e ∙ u.second }) f
 
 -- ---- states that are followed
 
-pub followed_late : {a b c : List ℕ} {s k : ℕ} → s ≤ k → Put a k b → Adds a (Followed c s k) b
-followed_late {k = k} l p =
+pub followed_late : {a b : List ℕ} (c : List ℕ) {s k : ℕ} → s ≤ k → Put a k b → Adds a (Followed c s k) b
+followed_late c {k = k} l p =
     adds_as (λ q (e : q ≡ k). inl e) (λ q. ⊎_elim (λ (e : q ≡ k). e) (λ u. let v = u.0 in absurd (omega arith))) (put_adds p)
 
-pub followed_early : (c : List ℕ) {a b d e : List ℕ} {s k : ℕ} → k < s → Put a k b
-    → Merged b 0 (get_or c (2 * k) 0) d → Merged d 1 (get_or c (2 * k + 1) 0) e → Adds a (Followed c s k) e
-followed_early c {s = s} {k} l p f g =
+pub followed_early : (c : List ℕ) {a b d r : List ℕ} {s k : ℕ} → k < s → Put a k b → RowOf c k r → Adds b (InRow 0 r) d → Adds a (Followed c s k) d
+followed_early c {r = r} {s} {k} l p e f =
     adds_as
     (λ q.
-    ⊎_elim (λ (e : q ≡ k). inl e)
-    (λ (u : (q / 128 ≡ 0) × (bit_at c (128 * k + q % 128) ≡ true)). inr (l, record { row = u.0; second = u.1 })))
-    (λ q. ⊎_elim (λ (e : q ≡ k). inl e) (λ (u : (k < s) × Through c 0 k q). inr (u.1.row, u.1.second)))
-    (adds_then (put_adds p) (row_merged c 0 k f g))
+    ⊎_elim (λ (i : q ≡ k). inl i)
+    (λ (u : InRow 0 r q). inr (l, record { row = u.place; second = sym (of_row c r k q e) ∙ u.there })))
+    (λ q. ⊎_elim (λ (i : q ≡ k). inl i) (λ (u : (k < s) × Through c 0 k q). inr record { place = u.1.row; there = of_row c r k q e ∙ u.1.second }))
+    (adds_then (put_adds p) f)
 
 -- ---- the diagonal
 
@@ -84,7 +63,7 @@ diagonal_turn s l f g =
     (λ q u.
     let r = u.row in
     let e = u.same in
-    ⊎_elim (λ (h : q / 128 < s). inl record { row = h; same = e }) (λ (h : s ≤ q / 128). inr (omega arith)) (below_or_not (q / 128) s))
+    ⊎_elim (λ (h : q / 128 < s). inl record { row = h; same = e }) (λ (h : s ≤ q / 128). inr (omega arith)) (cases_lt (q / 128) s))
     (adds_then f (put_adds g))
 
 -- ---- one row
@@ -97,11 +76,8 @@ pub record Completing (m : List ℕ) (s : ℕ) (c followed : List ℕ) : Type 0 
 pub completing_start : (m : List ℕ) (s : ℕ) (c : List ℕ) → Completed m s c → Completing m s c (replicate 2 0)
 completing_start m s c f = record { rows = f; onward = λ k t e. absurd (false≢true (sym (zeros_bit 2 k) ∙ e)) }
 
-module _ {m : List ℕ} {s k : ℕ} {b c d e : List ℕ} (small : s < 128) (i : Completing m s b d) (n : NextState b s d k) (more : k ≡ 128 → ⊥)
+module _ {m : List ℕ} {s k : ℕ} {b c d e r : List ℕ} (small : s < 128) (i : Completing m s b d) (row : RowOf b s r) (n : Fresh r d k)
     (f : Adds b (Through b s k) c) (g : Adds d (Followed c s k) e) where
-  state : k < 128
-  state = let w = n.within in omega arith
-
   -- a pair is an old one, or, in row s, one of row k
   parts : (r t : ℕ) → t < 128 → bit_at c (128 * r + t) ≡ true → (bit_at b (128 * r + t) ≡ true) ⊎ ((r ≡ s) × (bit_at b (128 * k + t) ≡ true))
   parts r t v h =
@@ -124,7 +100,7 @@ module _ {m : List ℕ} {s k : ℕ} {b c d e : List ℕ} (small : s < 128) (i : 
     only = λ r t u v h.
         ⊎_elim (λ (x : bit_at b (128 * r + t) ≡ true). i.rows.only r t u v x)
         (λ (x : (r ≡ s) × (bit_at b (128 * k + t) ≡ true)).
-        rw x.0 (leads_on (i.rows.only s k small state (n.there state)) (i.rows.only k t state v x.1)))
+        rw x.0 (leads_on (i.rows.only s k small n.within (sym (row k n.within) ∙ n.there)) (i.rows.only k t n.within v x.1)))
         (parts r t v h);
     complete = λ r u t l h x.
         ⊎_elim (λ (y : bit_at b (128 * r + u) ≡ true). f.old (128 * r + t) (i.rows.complete r u t l h y))
@@ -152,8 +128,8 @@ module _ {m : List ℕ} {s k : ℕ} {b c d e : List ℕ} (small : s < 128) (i : 
         (g.only u h);
   }
 
-pub completing_done : {m : List ℕ} {s k : ℕ} {c d : List ℕ} → Completing m s c d → NextState c s d k → k ≡ 128 → Completed m (s + 1) c
-completing_done {m} {s} {k} {c} {d} i n e = record {
+pub completing_done : {m : List ℕ} {s : ℕ} {c d : List ℕ} (r : List ℕ) → Completing m s c d → RowOf c s r → NoneFresh r d → Completed m (s + 1) c
+completing_done {m} {s} {c} {d} v i row n = record {
   has = i.rows.has;
   self = i.rows.self;
   only = i.rows.only;
@@ -161,8 +137,8 @@ completing_done {m} {s} {k} {c} {d} i n e = record {
       ⊎_elim (λ (y : r < s). i.rows.complete r u t y x h)
       (λ (y : s ≤ r).
       let z : r ≡ s = omega arith in
-      rw z (i.onward u t (n.none e u x.from (rw z at h)) x))
-      (below_or_not r s);
+      rw z (i.onward u t (n u x.from (row u x.from ∙ (rw z at h))) x))
+      (cases_lt r s);
 }
 
 -- ---- all rows
@@ -187,4 +163,4 @@ completed_done {m} n low {c} g = record { only = g.only; all = λ s t l r. every
     every s l {t} (after {p} r h) =
         ⊎_elim (λ (k : s < n). g.complete s p t k h (every s l r))
         (λ (k : n ≤ s). let e = leads_nowhere low k (after r h) in rw e (g.self s l))
-        (below_or_not s n)
+        (cases_lt s n)

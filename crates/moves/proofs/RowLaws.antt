@@ -1,44 +1,23 @@
 -- Rows of pairs of states: row k is the numbers 2 * k and 2 * k + 1 of a run, and bit 128 * k + t is the pair of k and t. Assumes nothing.
-use mathlib.Core.Path.{◌≡◌, sym, ap, ◌∙◌, subst}
+use mathlib.Core.Path.{◌≡◌, sym, ap, ◌∙◌}
 use mathlib.Core.Bool.{true}
 use mathlib.Core.Logic.{inl, inr, ⊎_elim}
 use mathlib.Core.List.{List}
-use Prim.Native.Nat.{ℕ, ◌+◌, ◌-◌, ◌*◌, ◌/◌, ◌%◌, ◌≤◌, ◌<◌}
+use Prim.Native.Nat.{ℕ, ◌+◌, ◌*◌, ◌/◌, ◌%◌, ◌<◌}
 use native.Mathlib.Omega.{arith}
 use lib.ListN.{get_or}
 use Rattle.bits.specs.Bit.{has_bit, bit_at}
 use Rattle.bits.specs.Runs.{Merged, Adds}
-use Rattle.bits.proofs.Digits.{below_or_not, same_or_not}
-use Rattle.bits.proofs.Laws.{merged_adds, adds_then, adds_as}
+use Rattle.bits.proofs.Digits.{same_or_not}
+use Rattle.bits.proofs.Laws.{word_bit, merged_adds, adds_then, adds_as}
 
--- ---- bits, by numbers
-
--- a bit of number w
-pub word_bit : (a : List ℕ) (w b : ℕ) → b < 64 → bit_at a (64 * w + b) ≡ has_bit b (get_or a w 0)
-unfolding bit_at
-word_bit a w b l =
-    let x : (64 * w + b) % 64 ≡ b = omega arith in
-    let y : (64 * w + b) / 64 ≡ w = omega arith in
-    rw (x, y)
-
-pub low_bit : (a : List ℕ) (s : ℕ) → s < 64 → bit_at a s ≡ has_bit s (get_or a 0 0)
-low_bit a s l = let e : s ≡ 64 * 0 + s = omega arith in ap (bit_at a) e ∙ word_bit a 0 s l
-
-pub high_bit : (a : List ℕ) (s : ℕ) → s < 64 → bit_at a (64 + s) ≡ has_bit s (get_or a 1 0)
-high_bit a s l = word_bit a 1 s l
+-- ---- bits, by rows
 
 pub row_low : (a : List ℕ) (k s : ℕ) → s < 64 → bit_at a (128 * k + s) ≡ has_bit s (get_or a (2 * k) 0)
 row_low a k s l = let e : 128 * k + s ≡ 64 * (2 * k) + s = omega arith in ap (bit_at a) e ∙ word_bit a (2 * k) s l
 
 pub row_high : (a : List ℕ) (k s : ℕ) → s < 64 → bit_at a (128 * k + (64 + s)) ≡ has_bit s (get_or a (2 * k + 1) 0)
 row_high a k s l = let e : 128 * k + (64 + s) ≡ 64 * (2 * k + 1) + s = omega arith in ap (bit_at a) e ∙ word_bit a (2 * k + 1) s l
-
--- a claim on the states below 128, by the two numbers
-pub by_half : (P : ℕ → Type 0) → ((s : ℕ) → s < 64 → P s) → ((s : ℕ) → s < 64 → P (64 + s)) → (s : ℕ) → s < 128 → P s
-by_half P f g s l =
-    ⊎_elim (λ (h : s < 64). f s h)
-    (λ (h : 64 ≤ s). let e : 64 + (s - 64) ≡ s = omega arith in subst P e (g (s - 64) (omega arith)))
-    (below_or_not s 64)
 
 -- ---- rows
 

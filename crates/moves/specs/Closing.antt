@@ -1,14 +1,7 @@
 -- What the private functions that close the moves do: rows of pairs, where bit 128 * s + t is the pair of s and t. Assumes nothing.
-use Rattle.std.specs.Prelude.{ℕ, ◌+◌, ◌*◌, ◌/◌, ◌%◌, ◌≤◌, ◌<◌, ◌≡◌, ◌⊎◌, List, true, false}
+use Rattle.std.specs.Prelude.{ℕ, ◌+◌, ◌*◌, ◌/◌, ◌%◌, ◌<◌, ◌≡◌, ◌⊎◌, List, true}
 use Rattle.bits.specs.Bit.{bit_at}
 use Rattle.moves.specs.Moves.{FreeMove, Leads}
-
--- r is a state that row s has and that is not followed yet, or 128 where there is none
-pub record NextState (c : List ℕ) (s : ℕ) (followed : List ℕ) (r : ℕ) : Type 0 where
-  pub within : r ≤ 128
-  pub there : r < 128 → bit_at c (128 * s + r) ≡ true
-  pub fresh : r < 128 → bit_at followed r ≡ false
-  pub none : r ≡ 128 → (t : ℕ) → t < 128 → bit_at c (128 * s + t) ≡ true → bit_at followed t ≡ true
 
 -- the pairs of s with what k is paired with
 pub record Through (a : List ℕ) (s k q : ℕ) : Type 0 where

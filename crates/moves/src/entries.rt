@@ -10,60 +10,43 @@ use event::sets::{EVERY, LetterSet};
 use expression::Kind;
 
 // Adds the entry of node i to those of each letter of a set.
-fn add_set(entries: &mut [u64], set: LetterSet, i: usize)
-    requires { (length entries.old ≡ 512) × (i < 64) }
+fn add_set(entries: &mut [u64; 512], set: LetterSet, i: usize)
+    requires { i < 64 }
     ensures { Adds entries.old (KindLetter (Letter set) i) entries.new }
 {
-    let mut index = event::sets::next_index(set, 0);
-    while index < 52 {
+    let mut from = 0;
+    while let Some(index) = event::sets::next_index(set, from) {
+        // Bits from 52 on stand for no letter.
+        if 52 <= index {
+            return;
+        }
         let letter = event::sets::letter_at(index);
         bits::put(entries, 128 * (letter as usize) + 2 * i);
-        index = event::sets::next_index(set, index + 1);
+        from = index + 1;
     }
 }
 
 // Adds the entry of node i to those of all letters, as `add_set` does for the set of all; but no index waits for the one before.
-fn add_every(entries: &mut [u64], i: usize)
-    requires { (length entries.old ≡ 512) × (i < 64) }
+fn add_every(entries: &mut [u64; 512], i: usize)
+    requires { i < 64 }
     ensures { Adds entries.old (KindLetter (Letter every) i) entries.new }
 {
-    let mut index = 0;
-    while index < 52 {
+    for index in 0..52 {
         let letter = event::sets::letter_at(index);
         bits::put(entries, 128 * (letter as usize) + 2 * i);
-        index += 1;
     }
 }
 
 // Adds the entry of node i to those of its letters, if it has any.
-pub fn add_letter(entries: &mut [u64], kind: Kind, i: usize)
-    requires { (length entries.old ≡ 512) × (i < 64) }
+pub fn add_letter(entries: &mut [u64; 512], kind: Kind, i: usize)
+    requires { i < 64 }
     ensures { Adds entries.old (KindLetter kind i) entries.new }
 {
-    match kind {
-        Kind::Letter(set) => {
-            if set.bits == EVERY {
-                add_every(entries, i);
-            } else {
-                add_set(entries, set, i);
-            }
+    if let Kind::Letter(set) = kind {
+        if set.bits == EVERY {
+            add_every(entries, i);
+        } else {
+            add_set(entries, set, i);
         }
-        Kind::Empty => {}
-        Kind::Epsilon => {}
-        Kind::Union => {}
-        Kind::Intersection => {}
-        Kind::Concatenation => {}
-        Kind::Complement => {}
-        Kind::Star => {}
-    }
-}
-
-// Adds the entry of node i, if it is special.
-pub fn add_special(entries: &mut [u64], kind: Kind, i: usize)
-    requires { (length entries.old ≡ 2) × (i < 64) }
-    ensures { Adds entries.old (KindSpecial kind i) entries.new }
-{
-    if is_special(kind) {
-        bits::put(entries, 2 * i);
     }
 }

@@ -3,11 +3,12 @@ ghost use Rattle.std.specs.Prelude.{◌≡◌, ◌+◌, ◌*◌, ◌<◌, ◌≤
 ghost use Rattle.bits.specs.Runs.{Put, Adds};
 ghost use Rattle.moves.specs.Moves.{NotFirst, SidesBefore, KindMove, RecordMove, SidedMove};
 
-use expression::{Kind, Node};
+use expression::Kind;
+use expression::records::Records;
 
 // Adds the move from state s to state t.
-fn link(moves: &mut [u64], s: usize, t: usize)
-    requires { (length moves.old ≡ 256) × (s < 128) × (t < 128) }
+fn link(moves: &mut [u64; 256], s: usize, t: usize)
+    requires { (s < 128) × (t < 128) }
     ensures { Put moves.old (128 * s + t) moves.new }
 {
     bits::put(moves, 128 * s + t);
@@ -15,8 +16,8 @@ fn link(moves: &mut [u64], s: usize, t: usize)
 
 // Adds the free moves of a node with sides, whose entry is e: from it to x and to y, from the exit f of a side to z, and from the exit of its
 // last side to its own.
-fn sided_moves(moves: &mut [u64], e: usize, x: usize, y: usize, f: usize, z: usize)
-    requires { (length moves.old ≡ 256) × (0 < e) × (e < 127) × (x < 128) × (y < 128) × (f < 128) × (z < 128) }
+fn sided_moves(moves: &mut [u64; 256], e: usize, x: usize, y: usize, f: usize, z: usize)
+    requires { (0 < e) × (e < 127) × (x < 128) × (y < 128) × (f < 128) × (z < 128) }
     ensures { Adds moves.old (SidedMove e x y f z) moves.new }
 {
     link(moves, e, x);
@@ -27,8 +28,8 @@ fn sided_moves(moves: &mut [u64], e: usize, x: usize, y: usize, f: usize, z: usi
 
 // Adds the free moves that node i brings; its first side, where it has two, is node l, and its last side is the node before it.
 // An intersection and a complement bring none: a walk passes them by the span table alone.
-fn node_moves(moves: &mut [u64], kind: Kind, i: usize, l: usize)
-    requires { (length moves.old ≡ 256) × (i < 64) × (l ≤ i) × NotFirst kind i }
+fn node_moves(moves: &mut [u64; 256], kind: Kind, i: usize, l: usize)
+    requires { (i < 64) × (l ≤ i) × NotFirst kind i }
     ensures { Adds moves.old (KindMove kind i l) moves.new }
 {
     let e = 2 * i;
@@ -49,25 +50,16 @@ fn node_moves(moves: &mut [u64], kind: Kind, i: usize, l: usize)
             // Into its side, past it, around it and out of it.
             sided_moves(moves, e, e - 2, e + 1, e - 1, e - 2);
         }
-        Kind::Empty => {}
-        Kind::Letter(_) => {}
-        Kind::Intersection => {}
-        Kind::Complement => {}
+        _ => {}
     }
 }
 
-// Adds the free moves of a rule with m nodes, whose first sides are in lefts.
-pub fn add_moves(nodes: [Node; 64], m: usize, lefts: [usize; 64], moves: &mut [u64])
-    requires m_bound { (m ≤ 64) × (length moves.old ≡ 256) }
-    requires sides_before { SidesBefore nodes lefts m }
-    ensures { Adds moves.old (RecordMove nodes lefts m) moves.new }
+// Adds the free moves of a rule whose first sides are in lefts.
+pub fn add_moves(records: &Records, lefts: &[usize; 64], moves: &mut [u64; 256])
+    requires { SidesBefore records.now.nodes lefts.now records.now.m }
+    ensures { Adds moves.old (RecordMove records.now.nodes lefts.now records.now.m) moves.new }
 {
-    let mut i = 0;
-    while i < m {
-        let node = nodes[i];
-        let kind = node.kind;
-        let l = lefts[i];
-        node_moves(moves, kind, i, l);
-        i += 1;
+    for i in 0..records.m {
+        node_moves(moves, records.nodes[i].kind, i, lefts[i]);
     }
 }

@@ -36,6 +36,12 @@ counting_on {nodes} {o} {m} {count} {i} g h e =
     let b = g.bounded in
     record { few = omega arith; counted = rw add-one (omega (arith, k, e.0)); bounded = omega (arith, b, e.1) }
 
+-- one that does not count is passed over
+pub counting_past : {nodes : List Node} {o m count i : ℕ} → Counting nodes o m count i → i < m
+    → (special_kind (kind_at nodes i) && ltb (offset_at nodes i) o) ≡ false → Counting nodes o m count (i + 1)
+counting_past {nodes} {o} {m} {count} {i} g h e =
+    subst (λ (n : ℕ). Counting nodes o m n (i + 1)) (omega arith) (counting_on {d = 0} g h (rw e refl, omega arith))
+
 pub counting_ends : {nodes : List Node} {o m count i : ℕ} → Counting nodes o m count i → m ≤ 64 → m ≤ i
     → (count ≡ specials_before nodes o m) × (count ≤ 64)
 counting_ends {nodes} {o} {m} {count} {i} g h l =

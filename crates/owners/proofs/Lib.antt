@@ -3,7 +3,7 @@ pub mod Rebuilt
 pub mod PartLaws
 pub mod SumLaws
 pub mod BlockLaws
-pub mod Runs
+pub mod Automata
 pub mod Steps
 pub mod Walks
 pub mod Counting

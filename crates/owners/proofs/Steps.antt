@@ -18,8 +18,7 @@ use Rattle.expression.specs.Tree.{Tree, empty, epsilon, letter, union, intersect
 use Rattle.moves.specs.Reached.{start, after}
 use Rattle.moves.specs.Moves.{kind_at, special_kind, KindMove, RecordMove, FreeMove, fits_letter}
 use Rattle.table.proofs.LayoutLaws.{held_span}
-use Rattle.levels.specs.AutomatonParts.{letter_part, special_part, first_part}
-use Rattle.walk.specs.Automaton.{automaton_of, Step, LetterStep, SpanStep}
+use Rattle.walk.specs.Course.{course_of, Step, LetterStep, SpanStep}
 use Rattle.work.specs.Span.{Obeys}
 use Rattle.work.specs.Walk.{entry, exit, Part, Fits, NodeMove, epsilon_through, letter_use, union_to_left, union_to_right, union_left_out}
 use Rattle.work.specs.Walk.{union_right_out}
@@ -29,6 +28,7 @@ use Rattle.work.specs.Walk.{complement_span, RuleMove}
 use Rattle.work.specs.Table.{HoldsBlock}
 use Rattle.work.specs.TableComputed.{obeys}
 use Rattle.work.proofs.TableLaws.{obeys_eq}
+use Rattle.levels.specs.declared.automaton.Automaton.{Automaton}
 use Rattle.owners.specs.Filling.{Recorded}
 use Rattle.owners.specs.Parts.{part_at, SpecialAt}
 use Rattle.owners.specs.Sides.{Left}
@@ -40,7 +40,7 @@ use Rattle.owners.proofs.PartLaws.{kind_of, part_at_lem, Headed, headed, kind_is
 pub added : {P : ℕ → Type 0} {b : List ℕ} (n q : ℕ) → Adds (replicate n 0) P b → bit_at b q ≡ true → P q
 added n q h e = ⊎_elim (λ (z : bit_at (replicate n 0) q ≡ true). absurd (false≢true (sym (zeros_bit n q) ∙ z))) (λ z. z) (h.only q e)
 
-module _ {t : Tree} {nodes : List Node} {m : ℕ} {lefts run w : List ℕ} {numbers : ℕ} (S : Setting t nodes m lefts run w numbers) where
+module _ {t : Tree} {nodes : List Node} {m : ℕ} {lefts : List ℕ} {automaton : Automaton} {w : List ℕ} {numbers : ℕ} (S : Setting t nodes m lefts automaton w numbers) where
   recorded : Recorded t nodes m
   recorded = S.recorded
 
@@ -125,7 +125,7 @@ module _ {t : Tree} {nodes : List Node} {m : ℕ} {lefts run w : List ℕ} {numb
       rw (a', b', c, d) (part_move h v)
 
   -- a letter's step
-  pub letter_move : (p q : ℕ) → LetterStep (letter_part run) w p q → RuleMove w t 0 (p % 128) (p / 128) (q % 128) (q / 128)
+  pub letter_move : (p q : ℕ) → LetterStep automaton.letters w p q → RuleMove w t 0 (p % 128) (p / 128) (q % 128) (q / 128)
   letter_move p q f =
       let c = get_or w (p / 128) 0 in
       let v = added 512 (128 * c + p % 128) S.built.letter f.event in
@@ -141,15 +141,15 @@ module _ {t : Tree} {nodes : List Node} {m : ℕ} {lefts run w : List ℕ} {numb
       (letter_of_lem (part_at t (p % 128 / 2)) h.first (p / 128) (rw (kind_is recorded (p % 128 / 2) l) at k) f.within)
 
   -- the special node of an entry
-  pub special_entry : (s : ℕ) → bit_at (special_part run) s ≡ true → (s / 2 < m) × (s % 2 ≡ 0) × SpecialAt t (s / 2)
+  pub special_entry : (s : ℕ) → bit_at automaton.specials s ≡ true → (s / 2 < m) × (s % 2 ≡ 0) × SpecialAt t (s / 2)
   special_entry s e =
       let v = added 2 s S.built.special e in
       (v.small, v.even, T_of (is_special (part_at t (s / 2))) (sym (special_is recorded (s / 2) v.small) ∙ v.special))
 
   -- a table that holds the blocks below node k
-  module _ (lent : List ℕ) (k : ℕ) (done : BlocksBelow w lent t (first_part run) k) where
+  module _ (lent : List ℕ) (k : ℕ) (done : BlocksBelow w lent t automaton.firsts k) where
     -- a special node's step
-    pub span_move : (p q : ℕ) → p % 128 < 2 * k → SpanStep (special_part run) (first_part run) lent (length w) p q
+    pub span_move : (p q : ℕ) → p % 128 < 2 * k → SpanStep automaton.specials automaton.firsts lent (length w) p q
         → RuleMove w t 0 (p % 128) (p / 128) (q % 128) (q / 128)
     span_move p q z f =
         let (l, ev, s) = special_entry (p % 128) f.special in
@@ -163,7 +163,7 @@ module _ {t : Tree} {nodes : List Node} {m : ℕ} {lefts run w : List ℕ} {numb
 
     -- ---- each move is a step
     abbrev Stepping : ℕ → ℕ → Type 0
-    Stepping = Step (automaton_of run w lent)
+    Stepping = Step (course_of automaton w lent)
 
     free_step : {u : Tree} {x : ℕ} (s s' j : ℕ) → Part t 0 u x → s < 128 → s' < 128
         → KindMove (kind_of u) (x + below u) (get_or lefts (x + below u) 0) (128 * s + s') → Stepping (128 * j + s) (128 * j + s')
@@ -193,8 +193,8 @@ module _ {t : Tree} {nodes : List Node} {m : ℕ} {lefts run w : List ℕ} {numb
         let low = o.order in
         let high = o.inside in
         let a : part_at t (x + below u) ≡ u = part_at_lem p in
-        let b : HoldsBlock w u lent (get_or (first_part run) (x + below u) 0) =
-        subst (λ (v : Tree). HoldsBlock w v lent (get_or (first_part run) (x + below u) 0)) a
+        let b : HoldsBlock w u lent (get_or automaton.firsts (x + below u) 0) =
+        subst (λ (v : Tree). HoldsBlock w v lent (get_or automaton.firsts (x + below u) 0)) a
         (done (x + below u) l (subst (λ (v : Tree). T (is_special v)) (sym a) h)) in
         let g = held_span S.short b j n low high ∙ of_T (obeys w u j n) ((obeys_eq w u j n).1 o) in
         inr (inr (record {

@@ -15,19 +15,19 @@ use Rattle.expression.specs.declared.Node.{Node}
 use Rattle.expression.specs.Tree.{Tree, empty, epsilon, letter, union, intersection, concatenation, complement, star, below, size, is_special}
 use Rattle.moves.specs.Moves.{kind_at, special_kind}
 use Rattle.table.proofs.LayoutLaws.{blocks_part, held_kept}
-use Rattle.levels.specs.AutomatonParts.{first_part}
-use Rattle.marks.specs.declared.Target.{Target}
-use Rattle.walk.specs.Automaton.{Automaton, automaton_of}
+use Rattle.marks.specs.declared.target.Target.{Target}
+use Rattle.walk.specs.Course.{Course, course_of}
 use Rattle.walk.specs.Filled.{Apart, Filled}
 use Rattle.work.specs.Walk.{exit, Part}
 use Rattle.work.specs.Count.{sum_to, places, full_count}
 use Rattle.work.specs.Table.{HoldsBlock}
+use Rattle.levels.specs.declared.automaton.Automaton.{Automaton}
 use Rattle.owners.specs.Parts.{part_at, SpecialAt}
 use Rattle.owners.specs.Blocks.{WholeApart, BlocksBelow, OffBlocks}
 use Rattle.owners.specs.Turns.{is_complement, own_walks, Setting, Turned, SpecialsTurned, AllTurned}
 use Rattle.owners.proofs.PartLaws.{kind_of, Headed, headed, kind_is, special_is}
 use Rattle.owners.proofs.SumLaws.{walks_below, below_all, below_none, below_more, below_up}
-use Rattle.owners.proofs.Walkers.{target_of, Walker, filled_over, filled_counted, filled_block, whole_walker, complement_walker}
+use Rattle.owners.proofs.Walkers.{Bound, target_of, Walker, filled_over, filled_counted, filled_block, whole_walker, complement_walker}
 use Rattle.owners.proofs.Walkers.{intersection_walker, complement_apart, intersection_apart}
 
 sum_add : (f g : ℕ → ℕ) (k : ℕ) → sum_to k (λ i. f i + g i) ≡ sum_to k f + sum_to k g
@@ -35,24 +35,25 @@ sum_add f g zero = refl
 sum_add f g (suc k) = omega (arith, sum_add f g k)
 
 -- an owner by its target: its walks, of the count that is its part's, go by other blocks
-record Own (g : Automaton) (o : Target) (v : Tree) : Type 1 where
+record Own (g : Course) (o : Target) (v : Tree) : Type 1 where
   each : ℕ → ℕ
   walker : Walker g o v each
   count : sum_to (length g.word) each ≡ own_walks g.word v
   apart : Apart g o
 
-module _ {t : Tree} {nodes : List Node} {m : ℕ} {lefts run w : List ℕ} {numbers : ℕ} (S : Setting t nodes m lefts run w numbers)
+module _ {t : Tree} {nodes : List Node} {m : ℕ} {lefts : List ℕ} {automaton : Automaton} {w : List ℕ} {numbers : ℕ} (S : Setting t nodes m lefts automaton w numbers)
     (lent : List ℕ) where
-  abbrev A : Automaton
-  A = automaton_of run w lent
+  abbrev A : Course
+  A = course_of automaton w lent
 
   -- the target of special node i, of that kind
-  abbrev target_at : ℕ → Bool → Target
-  target_at i c = target_of (get_or (first_part run) i 0) (2 * get_or lefts i 0 + 1) (2 * i - 1) c
+  abbrev target_at : (i : ℕ) → Bool → Bound (2 * get_or lefts i 0 + 1) → Bound (2 * i - 1) → Target
+  target_at i c = target_of (get_or automaton.firsts i 0) (2 * get_or lefts i 0 + 1) (2 * i - 1) c
 
   -- what the root of a special part owns
-  own_part : (u : Tree) (x : ℕ) → Part t 0 u x → T (is_special u) → BlocksBelow w lent t (first_part run) (x + below u)
-      → Own A (target_at (x + below u) (is_complement (kind_of u))) u
+  own_part : (u : Tree) (x : ℕ) → Part t 0 u x → T (is_special u) → BlocksBelow w lent t automaton.firsts (x + below u)
+      → (l : Bound (2 * get_or lefts (x + below u) 0 + 1)) (r : Bound (2 * (x + below u) - 1))
+      → Own A (target_at (x + below u) (is_complement (kind_of u)) l r) u
   unfolding own_walks
   own_part (empty o) x p s d = absurd s
   own_part (epsilon o) x p s d = absurd s
@@ -62,27 +63,27 @@ module _ {t : Tree} {nodes : List Node} {m : ℕ} {lefts run w : List ℕ} {numb
       let y = S.left _ x p in
       let ex : 2 * get_or lefts (x + below (intersection o a b)) 0 + 1 ≡ exit a x = omega arith in
       let ey : 2 * (x + below (intersection o a b)) - 1 ≡ exit b (x + size a) = omega arith in
-      rw (ex, ey) (record {
+      rw (ex, ey) (λ l r. record {
         each = λ n. places w a n + places w b n;
-        walker = intersection_walker S lent _ o x a b p d;
+        walker = intersection_walker S lent _ o x a b l r p d;
         count = sum_add (places w a) (places w b) (length w);
-        apart = intersection_apart S lent o x a b p d;
+        apart = intersection_apart S lent o x a b l r p d;
       })
   own_part (concatenation o a b) x p s d = absurd s
   own_part (complement o a) x p s d =
       let y = S.left _ x p in
       let ex : 2 * get_or lefts (x + below (complement o a)) 0 + 1 ≡ exit a x = omega arith in
       let ey : 2 * (x + below (complement o a)) - 1 ≡ exit a x = omega arith in
-      rw (ex, ey) (record {
+      rw (ex, ey) (λ l r. record {
         each = places w a;
-        walker = complement_walker S lent _ o x a p d;
+        walker = complement_walker S lent _ o x a l r p d;
         count = refl;
-        apart = complement_apart S lent o x a p d;
+        apart = complement_apart S lent o x a l r p d;
       })
   own_part (star o a) x p s d = absurd s
 
   -- ---- a special node's turn
-  module _ (i : ℕ) (h : i < m) (done : BlocksBelow w lent t (first_part run) i) where
+  module _ (i : ℕ) (h : i < m) (done : BlocksBelow w lent t automaton.firsts i) where
     at_node : Headed t i
     at_node = headed t i (omega (arith, S.recorded.long))
 
@@ -90,34 +91,37 @@ module _ {t : Tree} {nodes : List Node} {m : ℕ} {lefts run w : List ℕ} {numb
       special_here : SpecialAt t i
       special_here = T_of (is_special (part_at t i)) (sym (special_is S.recorded i h) ∙ sp)
 
-      own : Own A (target_at i (is_complement (kind_at nodes i))) (part_at t i)
+      own : (l : Bound (2 * get_or lefts i 0 + 1)) (r : Bound (2 * i - 1))
+          → Own A (target_at i (is_complement (kind_at nodes i)) l r) (part_at t i)
       own =
           rw (kind_is S.recorded i h)
-          (subst (λ (n : ℕ). BlocksBelow w lent t (first_part run) n → Own A (target_at n (is_complement (kind_of (part_at t i)))) (part_at t i))
+          (subst (λ (n : ℕ). BlocksBelow w lent t automaton.firsts n → (l : Bound (2 * get_or lefts n 0 + 1)) (r : Bound (2 * n - 1))
+          → Own A (target_at n (is_complement (kind_of (part_at t i))) l r) (part_at t i))
           (sym at_node.root) (own_part (part_at t i) at_node.first at_node.within special_here) done)
 
-      module _ (first : ℕ) (flag : Bool) (same : first ≡ get_or (first_part run) i 0) (kind : flag ≡ is_complement (kind_at nodes i)) where
+      module _ (first : ℕ) (flag : Bool) (same : first ≡ get_or automaton.firsts i 0) (kind : flag ≡ is_complement (kind_at nodes i))
+          (l : Bound (2 * get_or lefts i 0 + 1)) (r : Bound (2 * i - 1)) where
         -- its walks go by other blocks
-        pub own_apart : Apart A (target_of first (2 * get_or lefts i 0 + 1) (2 * i - 1) flag)
-        own_apart = rw (same, kind) own.apart
+        pub own_apart : Apart A (target_of first (2 * get_or lefts i 0 + 1) (2 * i - 1) flag l r)
+        own_apart = rw (same, kind) (own l r).apart
 
         -- its block as filled, and all blocks before
         pub own_turn : {count limit : ℕ} {b : List ℕ} {c : ℕ} {spent : Bool}
-            → Filled A (target_of first (2 * get_or lefts i 0 + 1) (2 * i - 1) flag) count limit b c spent
-            → Turned t w (first_part run) i count limit lent b c spent
+            → Filled A (target_of first (2 * get_or lefts i 0 + 1) (2 * i - 1) flag l r) count limit b c spent
+            → Turned t w automaton.firsts i count limit lent b c spent
         own_turn {count} {limit} {b} {c} {spent} g =
-            let f : Filled A (target_at i (is_complement (kind_at nodes i))) count limit b c spent = rw (same, kind) at g in
+            let f : Filled A (target_at i (is_complement (kind_at nodes i)) l r) count limit b c spent = rw (same, kind) at g in
             record {
-              done = λ e. again f (filled_block own.walker f e S.short);
+              done = λ e. again f (filled_block (own l r).walker f e S.short);
               outside = λ q n. f.outside q (n special_here);
-              counted = λ e. filled_counted own.walker f e ∙ ap (count +◌) own.count;
-              over = λ e. let z = filled_over own.walker f e in let y = own.count in omega arith;
+              counted = λ e. filled_counted (own l r).walker f e ∙ ap (count +◌) (own l r).count;
+              over = λ e. let z = filled_over (own l r).walker f e in let y = (own l r).count in omega arith;
               spends = f.spends;
               bounded = f.bounded;
             }
           where
-            again : Filled A (target_at i (is_complement (kind_at nodes i))) count limit b c spent
-                → HoldsBlock w (part_at t i) b (get_or (first_part run) i 0) → BlocksBelow w b t (first_part run) (i + 1)
+            again : Filled A (target_at i (is_complement (kind_at nodes i)) l r) count limit b c spent
+                → HoldsBlock w (part_at t i) b (get_or automaton.firsts i 0) → BlocksBelow w b t automaton.firsts (i + 1)
             again f r y j s =
                 ⊎_elim
                 (λ (l : y < i).
@@ -125,7 +129,7 @@ module _ {t : Tree} {nodes : List Node} {m : ℕ} {lefts run w : List ℕ} {numb
                 (λ q x. f.outside q (λ z. blocks_part (S.spaced.apart y i l s special_here) x z)))
                 (λ (l : i ≤ y).
                 let e : i ≡ y = omega arith in
-                subst (λ (n : ℕ). HoldsBlock w (part_at t n) b (get_or (first_part run) n 0)) e r)
+                subst (λ (n : ℕ). HoldsBlock w (part_at t n) b (get_or automaton.firsts n 0)) e r)
                 (below_or_not y i)
 
     -- ---- another node's turn
@@ -141,7 +145,7 @@ module _ {t : Tree} {nodes : List Node} {m : ℕ} {lefts run w : List ℕ} {numb
     plain_walks (star o a) e = refl
 
     pub plain_turn : {count limit : ℕ} → special_kind (kind_at nodes i) ≡ false → count ≤ limit
-        → Turned t w (first_part run) i count limit lent lent count false
+        → Turned t w automaton.firsts i count limit lent lent count false
     plain_turn {count} {limit} sp k =
         let s : is_special (part_at t i) ≡ false = sym (special_is S.recorded i h) ∙ sp in
         record {
@@ -160,15 +164,15 @@ module _ {t : Tree} {nodes : List Node} {m : ℕ} {lefts run w : List ℕ} {numb
 
   -- ---- the whole rule's turn
   pub whole_turn : {whole limit count : ℕ} {a b : List ℕ} {c : ℕ} {before spent : Bool} → before ≡ false
-      → SpecialsTurned t w (first_part run) limit a lent count before → WholeApart t (length w) (first_part run) numbers whole
-      → Filled A (target_of whole (2 * m - 1) (2 * m - 1) false) count limit b c spent
-      → AllTurned t w (first_part run) whole limit a b c spent
+      → SpecialsTurned t w automaton.firsts limit a lent count before → WholeApart t (length w) automaton.firsts numbers whole
+      → (l r : Bound (2 * m - 1)) → Filled A (target_of whole (2 * m - 1) (2 * m - 1) false l r) count limit b c spent
+      → AllTurned t w automaton.firsts whole limit a b c spent
   unfolding full_count
-  whole_turn {whole} {limit} {count} {a} {b} {c} {before} {spent} e₀ s p f =
-      let x : 2 * m - 1 ≡ exit t 0 = omega (arith, S.recorded.long) in
-      let g = subst (λ (y : ℕ). Filled A (target_of whole y y false) count limit b c spent) x f in
+  whole_turn {whole} {limit} {count} {a} {b} {c} {before} {spent} e₀ s p l r g =
+      let x : exit t 0 ≡ 2 * m - 1 = omega (arith, S.recorded.long) in
       let d = s.done e₀ in
-      let k = whole_walker S lent whole d in
+      let k = subst (λ (y : ℕ). (l r : Bound y) → Walker A (target_of whole y y false l r) t (places w t)) x
+      (λ u v. whole_walker S lent whole u v d) l r in
       let n = s.counted e₀ in
       record {
         rule = λ e. filled_block k g e S.short;
@@ -232,10 +236,6 @@ module _ {t : Tree} {w : Word} {firsts : List ℕ} {limit : ℕ} {a : List ℕ} 
           spends = s.spends;
           bounded = s.bounded;
         }
-
-    -- the same by other names
-    pub turning_same : {b : List ℕ} {c : ℕ} → b ≡ lent → c ≡ count → Turning t w firsts limit a b c i
-    turning_same d e = rw (d, e) g
 
     pub turning_ends : size t ≤ i → SpecialsTurned t w firsts limit a lent count false
     turning_ends h =

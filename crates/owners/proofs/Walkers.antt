@@ -14,9 +14,8 @@ use Rattle.expression.specs.declared.Node.{Node}
 use Rattle.expression.specs.Tree.{Tree, intersection, complement, below, size, is_special}
 use Rattle.moves.specs.Reached.{Reached}
 use Rattle.table.proofs.LayoutLaws.{holds_block}
-use Rattle.levels.specs.AutomatonParts.{special_part, first_part}
-use Rattle.marks.specs.declared.Target.{Target}
-use Rattle.walk.specs.Automaton.{Automaton, automaton_of, Step}
+use Rattle.marks.specs.declared.target.Target.{Target}
+use Rattle.walk.specs.Course.{Course, course_of, Step}
 use Rattle.marks.specs.Marks.{StartsAt}
 use Rattle.marks.specs.Rows.{decide, judged}
 use Rattle.walk.specs.Filled.{Apart, Filled}
@@ -32,6 +31,7 @@ use Rattle.work.proofs.TreeWalk.{TreeWalk}
 use Rattle.work.proofs.Walked.{walked_exit}
 use Rattle.work.proofs.WalkSize.{Of, of_sum, places_size}
 use Rattle.work.proofs.Owners.{reached_range}
+use Rattle.levels.specs.declared.automaton.Automaton.{Automaton}
 use Rattle.owners.specs.Blocks.{BlocksApart, WholeApart, BlocksBelow}
 use Rattle.owners.specs.Turns.{Setting}
 use Rattle.owners.proofs.PartLaws.{part_at_lem}
@@ -49,12 +49,16 @@ not_ended : (a : Bool) → T (decide a a true) ↔ (a ≡ true → ⊥)
 not_ended true = (λ h e. h, λ h. h refl)
 not_ended false = (λ h e. false≢true e, λ h. tt)
 
+-- the exit of a node
+abbrev pub Bound : ℕ → Type 0
+Bound x = x < 128
+
 -- what an owner's walks fill, by its parts
-abbrev pub target_of : (first left right : ℕ) (complement : Bool) → Target
-target_of f x y c = record { first = f; left = x; right = y; complement = c }
+abbrev pub target_of : (first left right : ℕ) (complement : Bool) → Bound left → Bound right → Target
+target_of f x y c l r = record { first = f; left = x; right = y; complement = c; left_bound = l; right_bound = r }
 
 -- ---- an owner: what its walks reach, how many places those are, and what their marks say of the spans
-pub record Walker (g : Automaton) (o : Target) (v : Tree) (c : ℕ → ℕ) : Type 1 where
+pub record Walker (g : Course) (o : Target) (v : Tree) (c : ℕ → ℕ) : Type 1 where
   pub owner : Owner
   pub reach : ℕ → ℕ → ℕ → Type 0
   pub many : (i : ℕ) → i ≤ length g.word → SizeOf (Of owner i (reach i)) (c i)
@@ -63,7 +67,7 @@ pub record Walker (g : Automaton) (o : Target) (v : Tree) (c : ℕ → ℕ) : Ty
   pub spans : (marks : List ℕ) (i j : ℕ) → i ≤ j → j ≤ length g.word
       → ((q : ℕ) → (bit_at marks q ≡ true) ↔ reach i (q % 128) (q / 128)) → judged marks o j ≡ obeys g.word v i j
 
-module _ {g : Automaton} {o : Target} {v : Tree} {c : ℕ → ℕ} (k : Walker g o v c) {count limit : ℕ} {b : List ℕ} {d : ℕ} {spent : Bool}
+module _ {g : Course} {o : Target} {v : Tree} {c : ℕ → ℕ} (k : Walker g o v c) {count limit : ℕ} {b : List ℕ} {d : ℕ} {spent : Bool}
     (f : Filled g o count limit b d spent) where
   marks_most : (i : ℕ) → i ≤ length g.word → tally_below (128 * (length g.word + 1)) (bit_at (f.marks i)) ≤ c i
   marks_most i l =
@@ -97,10 +101,10 @@ module _ {g : Automaton} {o : Target} {v : Tree} {c : ℕ → ℕ} (k : Walker g
         (λ q l e. (f.others q l e).0)
 
 -- ---- the three owners
-module _ {t : Tree} {nodes : List Node} {m : ℕ} {lefts run w : List ℕ} {numbers : ℕ} (S : Setting t nodes m lefts run w numbers)
+module _ {t : Tree} {nodes : List Node} {m : ℕ} {lefts : List ℕ} {automaton : Automaton} {w : List ℕ} {numbers : ℕ} (S : Setting t nodes m lefts automaton w numbers)
     (lent : List ℕ) where
-  abbrev A : Automaton
-  A = automaton_of run w lent
+  abbrev A : Course
+  A = course_of automaton w lent
 
   walk_number : {a : Tree} {x i s j : ℕ} → i ≤ length w → TreeWalk w a x i s j → j ≤ length w
   walk_number l tree.start = l
@@ -129,9 +133,9 @@ module _ {t : Tree} {nodes : List Node} {m : ℕ} {lefts run w : List ℕ} {numb
         λ k. z.1 (subst (λ s. X s ((128 * j + exit a x) / 128)) (sym e) (subst (λ n. X (exit a x) n) (sym d) k)),
       )
 
-  pub whole_walker : (first : ℕ) → BlocksBelow w lent t (first_part run) (size t)
-      → Walker A (target_of first (exit t 0) (exit t 0) false) t (places w t)
-  whole_walker first done = record {
+  pub whole_walker : (first : ℕ) (l r : Bound (exit t 0)) → BlocksBelow w lent t automaton.firsts (size t)
+      → Walker A (target_of first (exit t 0) (exit t 0) false l r) t (places w t)
+  whole_walker first _ _ done = record {
     owner = whole;
     reach = λ i s j. TreeWalk w t 0 i s j;
     many = λ i h. places_size w whole i t 0 h;
@@ -147,10 +151,10 @@ module _ {t : Tree} {nodes : List Node} {m : ℕ} {lefts run w : List ℕ} {numb
         (λ r. let b = z.1 (o.1 ((obeys_eq w t i j).0 r)) in d.1 (b, b));
   }
 
-  pub complement_walker : (first o x : ℕ) (a : Tree) → Part t 0 (complement o a) x
-      → BlocksBelow w lent t (first_part run) (x + below (complement o a))
-      → Walker A (target_of first (exit a x) (exit a x) true) (complement o a) (places w a)
-  complement_walker first o x a p done = record {
+  pub complement_walker : (first o x : ℕ) (a : Tree) (l r : Bound (exit a x)) → Part t 0 (complement o a) x
+      → BlocksBelow w lent t automaton.firsts (x + below (complement o a))
+      → Walker A (target_of first (exit a x) (exit a x) true l r) (complement o a) (places w a)
+  complement_walker first o x a _ _ p done = record {
     owner = special (x + below (complement o a));
     reach = λ i s j. TreeWalk w a x i s j;
     many = λ i h. places_size w (special (x + below (complement o a))) i a x h;
@@ -166,10 +170,10 @@ module _ {t : Tree} {nodes : List Node} {m : ℕ} {lefts run w : List ℕ} {numb
         (λ k. let u = r.0 ((obeys_eq w (complement o a) i j).0 k) in d.1 (λ q. u.2 (z.0 q)));
   }
 
-  pub intersection_walker : (first o x : ℕ) (a b : Tree) → Part t 0 (intersection o a b) x
-      → BlocksBelow w lent t (first_part run) (x + below (intersection o a b))
-      → Walker A (target_of first (exit a x) (exit b (x + size a)) false) (intersection o a b) (λ i. places w a i + places w b i)
-  intersection_walker first o x a b p done =
+  pub intersection_walker : (first o x : ℕ) (a b : Tree) (l : Bound (exit a x)) (r : Bound (exit b (x + size a)))
+      → Part t 0 (intersection o a b) x → BlocksBelow w lent t automaton.firsts (x + below (intersection o a b))
+      → Walker A (target_of first (exit a x) (exit b (x + size a)) false l r) (intersection o a b) (λ i. places w a i + places w b i)
+  intersection_walker first o x a b _ _ p done =
       let u = special (x + below (intersection o a b)) in
       let c = part_part p (intersection_left itself) in
       let d = part_part p (intersection_right itself) in
@@ -200,29 +204,30 @@ module _ {t : Tree} {nodes : List Node} {m : ℕ} {lefts run w : List ℕ} {numb
       }
 
   -- ---- an owner's own block is none of those that its walks go by
-  inside_apart : (u : Tree) (x s : ℕ) → Part t 0 u x → T (is_special u) → Within x (x + below u) s → bit_at (special_part run) s ≡ true
-      → BlocksApart (length w) (get_or (first_part run) (s / 2) 0) (get_or (first_part run) (x + below u) 0)
+  inside_apart : (u : Tree) (x s : ℕ) → Part t 0 u x → T (is_special u) → Within x (x + below u) s → bit_at automaton.specials s ≡ true
+      → BlocksApart (length w) (get_or automaton.firsts (s / 2) 0) (get_or automaton.firsts (x + below u) 0)
   inside_apart u x s p h l e =
       let (k, ev, v) = special_entry S s e in
       S.spaced.apart (s / 2) (x + below u) (omega arith) v (subst (λ (c : Tree). T (is_special c)) (sym (part_at_lem p)) h)
 
-  pub complement_apart : (o x : ℕ) (a : Tree) → Part t 0 (complement o a) x
-      → BlocksBelow w lent t (first_part run) (x + below (complement o a))
-      → Apart A (target_of (get_or (first_part run) (x + below (complement o a)) 0) (exit a x) (exit a x) true)
-  complement_apart o x a p done i q h r e =
+  pub complement_apart : (o x : ℕ) (a : Tree) (l r : Bound (exit a x)) → Part t 0 (complement o a) x
+      → BlocksBelow w lent t automaton.firsts (x + below (complement o a))
+      → Apart A (target_of (get_or automaton.firsts (x + below (complement o a)) 0) (exit a x) (exit a x) true l r)
+  complement_apart o x a _ _ p done i q h r e =
       let z = reached_range w i h a x (q % 128) (q / 128) ((complement_reached S lent i h o x a p done q).0 r) in
       inside_apart (complement o a) x (q % 128) p tt (omega (arith, z)) e
 
-  pub intersection_apart : (o x : ℕ) (a b : Tree) → Part t 0 (intersection o a b) x
-      → BlocksBelow w lent t (first_part run) (x + below (intersection o a b))
-      → Apart A (target_of (get_or (first_part run) (x + below (intersection o a b)) 0) (exit a x) (exit b (x + size a)) false)
-  intersection_apart o x a b p done i q h r e =
+  pub intersection_apart : (o x : ℕ) (a b : Tree) (l : Bound (exit a x)) (r : Bound (exit b (x + size a)))
+      → Part t 0 (intersection o a b) x → BlocksBelow w lent t automaton.firsts (x + below (intersection o a b))
+      → Apart A (target_of (get_or automaton.firsts (x + below (intersection o a b)) 0) (exit a x) (exit b (x + size a)) false l r)
+  intersection_apart o x a b _ _ p done i q h r e =
       let l : Within x (x + below (intersection o a b)) (q % 128) = ⊎_elim
       (λ c. let z = reached_range w i h a x (q % 128) (q / 128) c in omega arith)
       (λ c. let z = reached_range w i h b (x + size a) (q % 128) (q / 128) c in omega arith)
       ((intersection_reached S lent i h o x a b p done q).0 r) in
       inside_apart (intersection o a b) x (q % 128) p tt l e
 
-  pub whole_apart : {first : ℕ} (x y : ℕ) → WholeApart t (length w) (first_part run) numbers first → Apart A (target_of first x y false)
-  whole_apart x y f i q h r e =
+  pub whole_apart : {first : ℕ} (x y : ℕ) (l : Bound x) (r : Bound y) → WholeApart t (length w) automaton.firsts numbers first
+      → Apart A (target_of first x y false l r)
+  whole_apart x y _ _ f i q h r e =
       let (k, ev, v) = special_entry S (q % 128) e in ⊎_elim (λ z. inr z) (λ z. inl z) (f.apart (q % 128 / 2) v)

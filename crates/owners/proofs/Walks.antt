@@ -11,8 +11,7 @@ use Rattle.expression.specs.Tree.{Tree, intersection, complement, below, size}
 use Rattle.moves.specs.Reached.{Reached, start, after}
 use Rattle.moves.specs.Moves.{Leads}
 use Rattle.moves.proofs.Paths.{reached_from}
-use Rattle.levels.specs.AutomatonParts.{first_part}
-use Rattle.walk.specs.Automaton.{automaton_of, Step}
+use Rattle.walk.specs.Course.{course_of, Step}
 use Rattle.work.specs.Walk.{entry, exit, Part, itself, union_left, union_right, intersection_left, intersection_right, concatenation_left}
 use Rattle.work.specs.Walk.{concatenation_right, complement_inner, star_inner, Owner, whole, special, Begins, begin_rule, begin_left}
 use Rattle.work.specs.Walk.{begin_right}
@@ -22,6 +21,7 @@ use Rattle.work.proofs.TreeWalk as tree
 use Rattle.work.proofs.TreeWalk.{TreeWalk}
 use Rattle.work.proofs.Owners.{SpecialWalk, reached_range, reaches_walk, reaches_below, reaches_state}
 use Rattle.work.proofs.WorkSize.{owner_range}
+use Rattle.levels.specs.declared.automaton.Automaton.{Automaton}
 use Rattle.owners.specs.Blocks.{BlocksBelow}
 use Rattle.owners.specs.Turns.{Setting}
 use Rattle.owners.proofs.Steps.{free_move, letter_move, span_move, move_step}
@@ -72,10 +72,10 @@ module _ (w : Word) (i : ℕ) where
       (of_part (x + below (complement o a)) s j p (omega arith) (omega arith) (reaches_walk w i l r))
 
 -- ---- what the steps reach
-module _ {t : Tree} {nodes : List Node} {m : ℕ} {lefts run w : List ℕ} {numbers : ℕ} (S : Setting t nodes m lefts run w numbers)
-    (lent : List ℕ) (k : ℕ) (done : BlocksBelow w lent t (first_part run) k) (i : ℕ) (l : i ≤ length w) where
+module _ {t : Tree} {nodes : List Node} {m : ℕ} {lefts : List ℕ} {automaton : Automaton} {w : List ℕ} {numbers : ℕ} (S : Setting t nodes m lefts automaton w numbers)
+    (lent : List ℕ) (k : ℕ) (done : BlocksBelow w lent t automaton.firsts k) (i : ℕ) (l : i ≤ length w) where
   abbrev Stepping : ℕ → ℕ → Type 0
-  Stepping = Step (automaton_of run w lent)
+  Stepping = Step (course_of automaton w lent)
 
   -- the owner's walk goes along with the steps, as long as its states are those of the nodes below k
   module _ (u : Owner) (low : (s j : ℕ) → Reaches w t u i s j → s < 2 * k) where
@@ -121,13 +121,13 @@ module _ {t : Tree} {nodes : List Node} {m : ℕ} {lefts run w : List ℕ} {numb
       subst (Reached (λ (p : ℕ). p ≡ 128 * i + (exit a x - 1)) Stepping) e (steps p h r)
 
 -- ---- the three owners
-module _ {t : Tree} {nodes : List Node} {m : ℕ} {lefts run w : List ℕ} {numbers : ℕ} (S : Setting t nodes m lefts run w numbers)
+module _ {t : Tree} {nodes : List Node} {m : ℕ} {lefts : List ℕ} {automaton : Automaton} {w : List ℕ} {numbers : ℕ} (S : Setting t nodes m lefts automaton w numbers)
     (lent : List ℕ) (i : ℕ) (l : i ≤ length w) where
   -- the place q is reached by the automaton's steps from the entries before the exits x and y
   abbrev pub Walked : (x y q : ℕ) → Type 0
-  Walked x y q = Reached (λ (p : ℕ). (p ≡ 128 * i + (x - 1)) ⊎ (p ≡ 128 * i + (y - 1))) (Step (automaton_of run w lent)) q
+  Walked x y q = Reached (λ (p : ℕ). (p ≡ 128 * i + (x - 1)) ⊎ (p ≡ 128 * i + (y - 1))) (Step (course_of automaton w lent)) q
 
-  pub whole_reached : BlocksBelow w lent t (first_part run) (size t) → (q : ℕ)
+  pub whole_reached : BlocksBelow w lent t automaton.firsts (size t) → (q : ℕ)
       → Walked (exit t 0) (exit t 0) q ↔ TreeWalk w t 0 i (q % 128) (q / 128)
   whole_reached done q = (
     λ r. reaches_walk w i l (reaches S lent (size t) done i l whole (λ s j z. reaches_state w i l z)
@@ -136,7 +136,7 @@ module _ {t : Tree} {nodes : List Node} {m : ℕ} {lefts run w : List ℕ} {numb
   )
 
   pub complement_reached : (o x : ℕ) (a : Tree) → Part t 0 (complement o a) x
-      → BlocksBelow w lent t (first_part run) (x + below (complement o a)) → (q : ℕ)
+      → BlocksBelow w lent t automaton.firsts (x + below (complement o a)) → (q : ℕ)
       → Walked (exit a x) (exit a x) q ↔ TreeWalk w a x i (q % 128) (q / 128)
   complement_reached o x a p done q =
       let y = x + below (complement o a) in
@@ -147,7 +147,7 @@ module _ {t : Tree} {nodes : List Node} {m : ℕ} {lefts run w : List ℕ} {numb
       )
 
   pub intersection_reached : (o x : ℕ) (a b : Tree) → Part t 0 (intersection o a b) x
-      → BlocksBelow w lent t (first_part run) (x + below (intersection o a b)) → (q : ℕ) → Walked (exit a x) (exit b (x + size a)) q
+      → BlocksBelow w lent t automaton.firsts (x + below (intersection o a b)) → (q : ℕ) → Walked (exit a x) (exit b (x + size a)) q
       ↔ (TreeWalk w a x i (q % 128) (q / 128) ⊎ TreeWalk w b (x + size a) i (q % 128) (q / 128))
   intersection_reached o x a b p done q =
       let y = x + below (intersection o a b) in

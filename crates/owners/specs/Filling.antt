@@ -2,6 +2,7 @@
 use Rattle.std.specs.Prelude.{◌≡◌, ◌⊎◌, List, [], ◌∷◌, ◌++◌, Bool, true, false, ℕ, ◌+◌, ◌*◌, ◌≤◌, ◌<◌, length, get_or, take, drop, replicate}
 use Rattle.event.specs.Event.{Word, Events}
 use Rattle.expression.specs.declared.Node.{Node}
+use Rattle.expression.specs.declared.records.Records.{Records}
 use Rattle.expression.specs.Tree.{Tree, size, specials, records}
 use Rattle.expression.specs.TreeOf.{stacked, top}
 use Rattle.work.specs.Count.{full_count}
@@ -16,6 +17,10 @@ rebuilt st (n ∷ l) = rebuilt (stacked st n.offset n.kind) l
 -- the tree that the first m records are those of; that it is, is `tree_from_lem` in proofs/Rebuilt
 unfoldable pub tree_from : List Node → ℕ → Tree
 tree_from nodes m = top (rebuilt [] (take m nodes))
+
+-- the rule that a reader's records are those of
+abbrev pub rule_of : Records → Tree
+rule_of r = tree_from r.nodes r.m
 
 -- the first m of nodes are the records of t
 pub record Recorded (t : Tree) (nodes : List Node) (m : ℕ) : Type 0 where

@@ -7,10 +7,11 @@ use Rattle.expression.specs.declared.Kind.TheVariants.{Empty, Epsilon, Letter, U
 use Rattle.expression.specs.declared.Node.{Node}
 use Rattle.expression.specs.Tree.{Tree, empty, epsilon, letter, union, intersection, concatenation, complement, star, size}
 use Rattle.table.specs.Layout.{block_at, InBlock}
-use Rattle.levels.specs.AutomatonParts.{first_part}
 use Rattle.work.specs.Count.{walks, special_walks, full_count}
 use Rattle.work.specs.Table.{HoldsBlock}
-use Rattle.owners.specs.Filling.{Recorded}
+use Rattle.levels.specs.declared.automaton.Automaton.{Automaton}
+use Rattle.owners.specs.declared.turns.Owners.{Owners}
+use Rattle.owners.specs.Filling.{rule_of, Recorded}
 use Rattle.owners.specs.Parts.{part_at, SpecialAt}
 use Rattle.owners.specs.Sides.{Lefts}
 use Rattle.owners.specs.Blocks.{Spaced, BlocksBelow, OffBlocks}
@@ -39,14 +40,19 @@ own_walks w (complement o a) = walks w a
 own_walks w (star o a) = 0
 
 -- what the owners' turns go by: the records of a rule, its automaton, the word and a table of so many numbers
-pub record Setting (t : Tree) (nodes : List Node) (m : ℕ) (lefts run : List ℕ) (w : Word) (numbers : ℕ) : Type 0 where
+pub record Setting (t : Tree) (nodes : List Node) (m : ℕ) (lefts : List ℕ) (automaton : Automaton) (w : Word) (numbers : ℕ) : Type 0 where
   pub recorded : Recorded t nodes m
   pub events : Events w
   pub short : length w ≤ 255
   pub left : Lefts t lefts
   pub sides : length lefts ≡ 64
-  pub built : Built nodes m lefts run
-  pub spaced : Spaced t (length w) (first_part run) numbers
+  pub built : Built nodes m lefts automaton
+  pub spaced : Spaced t (length w) automaton.firsts numbers
+
+-- the same of the owners of a rule
+abbrev pub OwnersSet : Owners → ℕ → Type 0
+OwnersSet o numbers =
+    let r = o.records.now in Setting (rule_of r) r.nodes r.m o.lefts.now o.automaton.now o.word.now numbers
 
 -- b is the table a after node i had its turn
 pub record Turned (t : Tree) (w : Word) (firsts : List ℕ) (i count limit : ℕ) (a b : List ℕ) (c : ℕ) (spent : Bool) : Type 0 where

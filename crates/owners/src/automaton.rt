@@ -1,30 +1,30 @@
-// The automaton of a rule, which its owners' walks go by: one run of four parts.
-ghost use Rattle.std.specs.Prelude.{◌≡◌, ◌^◌, ◌≤◌, replicate};
-ghost use Rattle.levels.specs.AutomatonParts.{first_part};
+// The automaton of a rule, built.
+ghost use Rattle.std.specs.Prelude.{◌^◌, ◌≤◌};
 ghost use Rattle.moves.specs.Moves.{SidesBefore};
 ghost use Rattle.owners.specs.Blocks.{FirstNumbers};
 ghost use Rattle.owners.specs.Building.{Built};
 
 use crate::blocks::first_numbers;
-use expression::Node;
-use levels::{FIRSTS, LETTERS, NUMBERS, SPECIALS};
+use expression::records::Records;
+use levels::automaton::Automaton;
 
-// Fills a cleared run with the automaton of a rule with m nodes whose first sides are in lefts, for a word of n events, where the blocks of
-// its special nodes begin at number `special` of the table.
-pub fn build(
-    nodes: [Node; 64],
-    m: usize,
-    lefts: [usize; 64],
-    n: usize,
-    special: usize,
-    automaton: &mut [u64],
-)
-    requires m_bound { (m ≤ 64) × (n ≤ 255) × (special ≤ 2 ^ 60) × (automaton.old ≡ replicate 834 0) }
-    requires sides_before { SidesBefore nodes lefts m }
-    ensures { Built nodes m lefts automaton.new × FirstNumbers nodes m n special (first_part automaton.new) }
+// The automaton of a rule whose first sides are in lefts, for a word of n events, where the blocks of its special nodes begin at number
+// `special` of the table.
+pub fn build(records: &Records, lefts: &[usize; 64], n: usize, special: usize) -> Automaton
+    requires bounds { (n ≤ 255) × (special ≤ 2 ^ 60) }
+    requires sides_before { SidesBefore records.now.nodes lefts.now records.now.m }
+    ensures built { Built records.now.nodes records.now.m lefts.now result }
+    ensures firsts { FirstNumbers records.now.nodes records.now.m n special result.firsts }
 {
-    moves::closed_moves(nodes, m, lefts, &mut automaton[..LETTERS]);
-    moves::letter_entries(nodes, m, &mut automaton[LETTERS..SPECIALS]);
-    moves::special_entries(nodes, m, &mut automaton[SPECIALS..FIRSTS]);
-    first_numbers(nodes, m, n, special, &mut automaton[FIRSTS..NUMBERS]);
+    // Filled in place: parts that are made by themselves would be copied.
+    let mut automaton = Automaton {
+        closed: [0; 256],
+        letters: [0; 512],
+        specials: [0; 2],
+        firsts: first_numbers(records, n, special),
+    };
+    moves::closed_moves(records, lefts, &mut automaton.closed);
+    moves::letter_entries(records, &mut automaton.letters);
+    moves::special_entries(records, &mut automaton.specials);
+    automaton
 }

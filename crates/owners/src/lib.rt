@@ -6,39 +6,41 @@ mod blocks;
 mod sides;
 mod turns;
 
-ghost use Rattle.std.specs.Prelude.{length};
-ghost use Rattle.owners.specs.Filling.{tree_from, Fillable, FilledTable};
+ghost use Rattle.std.specs.Prelude.{length, is_none};
+ghost use Rattle.marks.specs.Works.{count_of};
+ghost use Rattle.owners.specs.Filling.{rule_of, Fillable, FilledTable};
 
 use crate::automaton::build;
 use crate::sides::left_sides;
-use crate::turns::fill_all;
-use expression::Node;
-use levels::NUMBERS;
-use marks::Tally;
+use crate::turns::Owners;
+use expression::records::Records;
+use marks::counting::Work;
 
-// Fills the blocks of the rule that the first m records are those of: the whole rule's from number `whole` of the table on, and those of its
+// Fills the blocks of the rule of the records: the whole rule's from number `whole` of the table on, and those of its
 // special nodes, one after another, from number `special` on. Clears the table if that takes more than the limit.
 pub fn fill(
-    nodes: [Node; 64],
-    m: usize,
+    records: &Records,
     word: &[u8],
     limit: u64,
     table: &mut [u64],
     whole: usize,
     special: usize,
-) -> Tally
-    requires { Fillable (tree_from nodes m) nodes m word.now (length table.old) whole special }
-    ensures { FilledTable (tree_from nodes m) word.now limit whole special
-        table.old table.new result.count result.spent }
+) -> Option<Work>
+    requires { Fillable (rule_of records.now) records.now.nodes records.now.m word.now (length table.old) whole special }
+    ensures { FilledTable (rule_of records.now) word.now limit whole special
+        table.old table.new (count_of limit result) (is_none result) }
 {
-    let lefts = left_sides(nodes, m);
-    let mut automaton = [0u64; NUMBERS];
-    build(nodes, m, lefts, word.len(), special, &mut automaton);
-    let t = fill_all(nodes, m, &lefts, &automaton, word, table, whole, limit);
-    if t.spent {
-        let numbers = table.len();
-        bits::clear(table, numbers);
-        return t;
+    let lefts = left_sides(records);
+    let automaton = build(records, &lefts, word.len(), special);
+    let owners = Owners {
+        records,
+        lefts: &lefts,
+        automaton: &automaton,
+        word,
+    };
+    let work = owners.fill_all(table, whole, limit);
+    if work.is_none() {
+        table.fill(0);
     }
-    t
+    work
 }

@@ -13,14 +13,11 @@ use Rattle.expression.specs.Bytes.{is_leaf}
 use Rattle.expression.specs.Tree.{Tree, size, below, specials, epsilon}
 use Rattle.expression.specs.Grammar.{Level, Alt, Reads, Sentence, alt_conj, alt_bar, conj_seq, conj_amp, seq_pre, seq_more, pre_post, pre_bang, post_atom}
 use Rattle.expression.specs.Grammar.{post_star, atom_letter, atom_any, atom_set, atom_empty, atom_epsilon, atom_group}
-use Rattle.expression.specs.Scan.{to, step_after, step_before, step_opened, step_letters, after_step, scan_from, scanned, finds, is_sentence}
+use Rattle.expression.specs.Scan.{to, step_after, step_before, step_opened, step_letters, after_step, scan_from, scanned, finds, is_sentence, ScanStep, ScanResult, counted}
 use Rattle.expression.specs.declared.Stage.{Stage}
 use Rattle.expression.specs.declared.Stage.TheVariants.{Operand, Ended, Opened, Letters}
-use Rattle.expression.specs.declared.ScanStep.{ScanStep}
-use Rattle.expression.specs.declared.ScanStep.TheVariants.{Stuck}
-use Rattle.expression.specs.declared.ScanResult.{ScanResult}
-use Rattle.expression.specs.declared.ScanResult.TheVariants as result
-use Rattle.expression.proofs.ScanAccepts.{from, close_step, scan_reads, sentence_found}
+use Rattle.std.proofs.Common.{None, Err}
+use Rattle.expression.proofs.ScanAccepts.{same_counts, from, close_step, scan_reads, sentence_found}
 use Rattle.expression.proofs.OneReading.{sentence_reads}
 use Rattle.expression.specs.TreeOf.{tree_of}
 use Rattle.replacement.specs.Replaced.{is_angle, Replaced, ends, byte, name, AnySentence, Formed}
@@ -71,8 +68,8 @@ plain (named n ∷ ps) h = plain ps h.1
 -- ---- the scan of both texts goes the same way
 -- two scans that find a sentence or none alike: after m and k the first counts as many nodes as the second after n and c, and p more, and q special ones more
 data Same (p q m n k c : ℕ) : ScanResult → ScanResult → Type 0 where
-  found : {a b x y : ℕ} → a + n ≡ x + m + p → b + c ≡ y + k + q → Same p q m n k c (result.Complete a b) (result.Complete x y)
-  broken : {i j : ℕ} → Same p q m n k c (result.Broken i) (result.Broken j)
+  found : {a b x y : ℕ} → a + n ≡ x + m + p → b + c ≡ y + k + q → Same p q m n k c (counted a b) (counted x y)
+  broken : {i j : ℕ} → Same p q m n k c (Err i) (Err j)
 
 -- two texts that the scan goes through alike, whatever stands before them
 Alike : ℕ → ℕ → List ℕ → List ℕ → Type 0
@@ -103,7 +100,7 @@ module _ (p q : ℕ) (x y : List ℕ) (h : Alike p q x y) (i j m n k c : ℕ) wh
   unfolding Ahead Alike
   goes d a m' n' k' c' e f = no_more p q m n k c (same_from p q 0 0 m n k c m' n' k' c' e f (h (i + 1) (j + 1) d a m' n' k' c'))
 
-  stuck : Ahead Stuck Stuck
+  stuck : Ahead None None
   unfolding Ahead
   stuck = broken
 
@@ -146,7 +143,7 @@ alike_end i j d Opened m n k c = broken
 alike_end i j d Letters m n k c = broken
 alike_end i j d Ended m n k c = go (eqb d 0)
   where
-    go : (t : Bool) → Same 0 0 m n k c (cond t (result.Complete m k) (result.Broken i)) (cond t (result.Complete n c) (result.Broken j))
+    go : (t : Bool) → Same 0 0 m n k c (cond t (counted m k) (Err i)) (cond t (counted n c) (Err j))
     go true = found {a = m} {b = k} {x = n} {y = c} (omega arith) (omega arith)
     go false = broken
 
@@ -210,17 +207,16 @@ filled_alike v t (own b ∷ ps) h = alike_byte (more_nodes t ps) (more_specials 
 filled_alike v t (named n ∷ ps) h =
     alike_group (more_nodes t ps) (more_specials t ps) (v n) (filled v ps) (shape_of ps) (t n) h.0 (filled_alike v t ps h.1)
 
-add_up : {p q : ℕ} {r s : ScanResult} → Same p q 0 0 0 0 r s → {m k : ℕ} → s ≡ result.Complete m k → r ≡ result.Complete (m + p) (k + q)
+add_up : {p q : ℕ} {r s : ScanResult} → Same p q 0 0 0 0 r s → {m k : ℕ} → s ≡ counted m k → r ≡ counted (m + p) (k + q)
 add_up {p} {q} (found {a = a} {b = b} {x = x} {y = y} g h) {m} {k} e =
-    let i : x ≡ m = cc in
-    let j : y ≡ k = cc in
-    ap₂ result.Complete (omega arith) (omega arith)
+    let z = same_counts e in
+    ap₂ counted (omega arith) (omega arith)
 add_up broken e = absurd (let n : ◌≡◌ {A = ℕ} 0 1 = cc in omega arith)
 
 -- the nodes of the replaced text are the shape's, and for each name its tree's but one
 pub counts_add : (v : List ℕ → List ℕ) (t : List ℕ → Tree) (ps : List Piece) → Names (λ (n : List ℕ). Reads Alt 0 (v n) (t n)) ps
-    → {m k : ℕ} → scanned (shape_of ps) ≡ result.Complete m k
-    → scanned (filled v ps) ≡ result.Complete (m + more_nodes t ps) (k + more_specials t ps)
+    → {m k : ℕ} → scanned (shape_of ps) ≡ counted m k
+    → scanned (filled v ps) ≡ counted (m + more_nodes t ps) (k + more_specials t ps)
 unfolding Alike
 counts_add v t ps h e = add_up (filled_alike v t ps h 0 0 0 Operand 0 0 0 0) e
 

@@ -10,10 +10,10 @@ use Rattle.event.proofs.Tests.{choose}
 use Rattle.expression.specs.Stars.{NoDouble}
 use Rattle.expression.specs.Tree.{Tree, size, specials}
 use Rattle.verdict.specs.declared.Verdict.{Verdict}
-use Rattle.rule.specs.RuleComputed.{sentence_outcome, size_outcome, sized, stored_outcome}
+use Rattle.rule.specs.RuleComputed.{Outcome, sentence_outcome, size_outcome, sized, stored_outcome}
 use Rattle.rule.specs.RuleMeaning.{WellFormed}
-use Rattle.rule.specs.declared.Outcome.{Outcome}
-use Rattle.rule.specs.declared.Outcome.TheVariants.{Accepted, Refused}
+use Rattle.std.proofs.Common.{Ok, Err}
+use Rattle.expression.specs.Scan.{counted}
 use Rattle.rule.specs.declared.Refusal.TheVariants.{ManyNodes, ManySpecials}
 use Rattle.rule.proofs.Answered.{Says, sentence_says, well_formed_is, ill_formed_is}
 use Rattle.rule.proofs.Rows.{in_row}
@@ -38,9 +38,9 @@ module _ (s old : List ℕ) where
       (λ g. written_means t (record { formed = f; nodes = ltb-false _ _ e; special = ltb-false _ _ g })))
 
   outcome_means : (o : Outcome) → Says s o → RewriteMeaning s old (after_checks (sized o) s old)
-  outcome_means (Accepted m k) w =
+  outcome_means (Ok z) w =
       subst₂ (λ (i j : ℕ). RewriteMeaning s old (after_checks (size_outcome i j) s old)) (sym w.nodes) (sym w.special) (size_means w.tree w.formed)
-  outcome_means (Refused r) w = subst (λ (v : Verdict). RewriteMeaning s old (told v 0 old)) (sym (in_row r).zero) (ill_formed w)
+  outcome_means (Err r) w = subst (λ (v : Verdict). RewriteMeaning s old (told v 0 old)) (sym (in_row r).zero) (ill_formed w)
 
   pub answer_means : RewriteMeaning s old (rewrite_answer s old)
   unfolding rewrite_answer
@@ -56,7 +56,7 @@ module _ (s old : List ℕ) where
 
   pub rewritable_after : (t : Tree) → Rewritable s t → written (rewritten s) old ≡ rewrite_answer s old
   rewritable_after t p =
-      let e : size_outcome (size t) (specials t) ≡ Accepted (size t) (specials t)
+      let e : size_outcome (size t) (specials t) ≡ counted (size t) (specials t)
       = simp (le-ltb 64 (size t) p.nodes, le-ltb 7 (specials t) p.special) in
       formed_after t p.formed e
 
@@ -74,9 +74,9 @@ pub answer_is : {s old : List ℕ} {a : RewriteAnswer} → RewriteMeaning s old 
 answer_is {s} {old} (ill_formed u) =
     let x = ill_formed_is u in
     ap (λ (v : Verdict). told v 0 old) (sym x.verdict) ∙ answer_after s old (ap sized x.outcome)
-answer_is {s} {old} (many_nodes {t = t} f h) = formed_after s old t {o = Refused ManyNodes} f (simp (lt-ltb 64 (size t) h))
+answer_is {s} {old} (many_nodes {t = t} f h) = formed_after s old t {o = Err ManyNodes} f (simp (lt-ltb 64 (size t) h))
 answer_is {s} {old} (many_specials {t = t} f h g) =
-    formed_after s old t {o = Refused ManySpecials} f (simp (le-ltb 64 (size t) h, lt-ltb 7 (specials t) g))
+    formed_after s old t {o = Err ManySpecials} f (simp (le-ltb 64 (size t) h, lt-ltb 7 (specials t) g))
 answer_is {s} {old} (short_buffer {t = t} {r = r} p q h) =
     too_short r old (length r) refl h ∙ ap (λ (x : List ℕ). written x old) (squeezed_only q) ∙ rewritable_after s old t p
 answer_is {s} {old} (accepted {t = t} {r = r} p q h) =
@@ -88,5 +88,5 @@ pub unchanged : {s : List ℕ} {t : Tree} (old : List ℕ) → Rewritable s t �
 unchanged {s} {t} old p d = sym (rewritable_after s old t p) ∙ ap (λ (x : List ℕ). written x old) (rewritten_same s d)
 
 -- ---- what the proofs of the functions cite
-pub with_meaning : {s old : List ℕ} {a : RewriteAnswer} → a ≡ rewrite_answer s old → (a ≡ rewrite_answer s old) × RewriteMeaning s old a
-with_meaning {s} {old} e = (e, subst (RewriteMeaning s old) (sym e) (answer_means s old))
+pub with_meaning : {s old : List ℕ} {a : RewriteAnswer} → a ≡ rewrite_answer s old → RewriteMeaning s old a
+with_meaning {s} {old} e = subst (RewriteMeaning s old) (sym e) (answer_means s old)

@@ -10,6 +10,8 @@ use borrow.Author.Tests.{eqb-true, eqb-false}
 use Rattle.event.specs.Event.{is_event}
 use Rattle.expression.specs.Unordered.{Ordered}
 use Rattle.expression.specs.OrderComputed.{noted}
+use Rattle.expression.specs.declared.Noted.{Noted}
+use Rattle.expression.specs.declared.Noted.TheVariants.{Outside}
 use Rattle.expression.specs.Stars.{NoDouble}
 use Rattle.expression.specs.StarsComputed.{doubles}
 use Rattle.expression.proofs.UnorderedLaws.{FallsAt, Rising, rising_ordered, ordered_rising, rises_on, rises_with}
@@ -197,21 +199,21 @@ squeezed_only q = only q 0 (λ e f. omega arith)
 
 -- ---- the letters inside brackets
 -- a star falls nowhere, and nothing is noted of it
-star_noted : (q : ℕ) → noted q 42 ≡ 0
+star_noted : (q : Noted) → noted q 42 ≡ Outside
 unfolding is_event
 star_noted q = refl
 
-squeezed_rises : (p q : ℕ) (s : List ℕ) → (p ≡ 42 → q ≡ 0) → Rising q s → Rising q (squeezed_after p s)
+squeezed_rises : (p : ℕ) (q : Noted) (s : List ℕ) → (p ≡ 42 → q ≡ Outside) → Rising q s → Rising q (squeezed_after p s)
 unfolding squeezed_after FallsAt
 squeezed_rises p q [] n h = h
 squeezed_rises p q (b ∷ s) n h =
     by (doubles p b)
     (λ e. let x = doubles_stars p b e in
     let z : noted q b ≡ q = ap (noted q) x.1 ∙ star_noted q ∙ sym (n x.0) in
-    subst (Rising q) (sym (squeezed_left p b s e)) (squeezed_rises b q s (λ f. n x.0) (subst (λ (k : ℕ). Rising k s) z (rises_on q b s h))))
+    subst (Rising q) (sym (squeezed_left p b s e)) (squeezed_rises b q s (λ f. n x.0) (subst (λ (k : Noted). Rising k s) z (rises_on q b s h))))
     (λ e. subst (Rising q) (sym (squeezed_kept p b s e))
     (rises_with q b s (squeezed_after b s) h (squeezed_rises b (noted q b) s (λ f. ap (noted q) f ∙ star_noted q) (rises_on q b s h))))
 
 -- they rise in the new text, if they do in the old one
 pub rewritten_ordered : (s : List ℕ) → Ordered s → Ordered (rewritten s)
-rewritten_ordered s o = rising_ordered (squeezed_rises 0 0 s (λ e. refl) (ordered_rising o))
+rewritten_ordered s o = rising_ordered (squeezed_rises 0 Outside s (λ e. refl) (ordered_rising o))

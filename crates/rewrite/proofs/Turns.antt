@@ -2,13 +2,11 @@
 use Prim.Native.Nat.{ℕ, ◌+◌, ◌≤◌, ◌<◌}
 use native.Mathlib.Omega.{arith}
 use native.Mathlib.Numerals.{add-one}
-use mathlib.Core.Path.{◌≡◌, refl, sym, ap, subst, subst₂, ◌∙◌}
-use mathlib.Core.Logic.{◌⊎◌, inl, inr}
-use mathlib.Core.Bool.{Bool, true, false, not}
+use mathlib.Core.Path.{◌≡◌, refl, sym, ap, ◌∙◌}
+use mathlib.Core.Bool.{true, false}
 use mathlib.Core.List.{List, [], ◌∷◌, ◌++◌}
 use lib.ListN.{length, get_or, set, drop, length-set, drop_of_length-le}
 use lib.Seq.{sets, sets-eq}
-use borrow.Author.Tests.{not-true, not-false}
 use Rattle.event.proofs.Tails.{rest_at}
 use Rattle.expression.specs.StarsComputed.{doubles}
 use Rattle.rewrite.specs.Rewritten.{squeezed_after, rewritten}
@@ -54,14 +52,6 @@ counting_kept {s} {p} {n} {i} c h e =
     let f = ap length (rest_kept s p i h e) in
     record { within = omega arith; few = omega (arith, c.few); total = omega (arith, c.total) }
 
--- a turn of the loop that counts: x is what the test said
-pub counting_on : {s : List ℕ} {p n i m : ℕ} {x : Bool} → Counting s p n i → i < length s → x ≡ doubles p (get_or s i 0)
-    → ((not x ≡ true) × (m ≡ n + 1)) ⊎ ((not x ≡ false) × (m ≡ n)) → Counting s (get_or s i 0) m (i + 1)
-counting_on {s} {i = i} {x = x} c h e (inl a) =
-    subst (λ (k : ℕ). Counting s (get_or s i 0) k (i + 1)) (sym a.1) (counting_kept c h (sym e ∙ not-true x a.0))
-counting_on {s} {i = i} {x = x} c h e (inr a) =
-    subst (λ (k : ℕ). Counting s (get_or s i 0) k (i + 1)) (sym a.1) (counting_left c h (sym e ∙ not-false x a.0))
-
 pub counting_ends : {s : List ℕ} {p n i : ℕ} → Counting s p n i → length s ≤ i → n ≡ length (rewritten s)
 counting_ends {s} {p} {n} {i} c h = let f = ap length (rest_end s p i h) in omega (arith, c.total)
 
@@ -95,15 +85,6 @@ writing_kept {s} {old} {out} {p} {n} {i} c h e =
       room = omega (arith, c.room);
       whole = ap (λ (k : ℕ). sets (set out n b) k (rest s b (i + 1))) (add-one n) ∙ ap (sets out n) (sym f) ∙ c.whole;
     }
-
--- a turn of the loop that writes
-pub writing_on : {s old out new : List ℕ} {p n i m : ℕ} {x : Bool} → Writing s old out p n i → i < length s → x ≡ doubles p (get_or s i 0)
-    → ((not x ≡ true) × (new ≡ set out n (get_or s i 0)) × (m ≡ n + 1)) ⊎ ((not x ≡ false) × (new ≡ out) × (m ≡ n))
-    → Writing s old new (get_or s i 0) m (i + 1)
-writing_on {s} {old} {i = i} {x = x} c h e (inl a) =
-    subst₂ (λ (b : List ℕ) (k : ℕ). Writing s old b (get_or s i 0) k (i + 1)) (sym a.1) (sym a.2) (writing_kept c h (sym e ∙ not-true x a.0))
-writing_on {s} {old} {i = i} {x = x} c h e (inr a) =
-    subst₂ (λ (b : List ℕ) (k : ℕ). Writing s old b (get_or s i 0) k (i + 1)) (sym a.1) (sym a.2) (writing_left c h (sym e ∙ not-false x a.0))
 
 pub writing_ends : {s old out : List ℕ} {p n i : ℕ} → Writing s old out p n i → length s ≤ i → length (rewritten s) ≤ length old
     → out ≡ rewritten s ++ drop (length (rewritten s)) old

@@ -1,10 +1,10 @@
 -- The values of the rewriter's answers, with what stands in the buffer, by documents 01 and 02 f). Assumes nothing.
-use Rattle.std.specs.Prelude.{ℕ, List, ◌++◌, length, drop}
+use Rattle.std.specs.Prelude.{ℕ, List, ◌++◌, length, drop, Result, Ok, Err}
 use Rattle.rule.specs.RuleAnswer as reader
 use Rattle.verdict.specs.Verdicts as verdict
 use Rattle.verdict.specs.declared.Verdict.{Verdict}
-use Rattle.rewrite.specs.declared.Outcome.{Outcome}
-use Rattle.rewrite.specs.declared.Outcome.TheVariants as outcome
+use Rattle.rewrite.specs.declared.Refusal.{Refusal}
+use Rattle.rewrite.specs.declared.Refusal.TheVariants as why
 
 -- 01: "An answer carries number (0 if accepted), place, found and count"; "A later call that writes text reports its length as n";
 -- and the whole buffer at exit
@@ -28,22 +28,16 @@ refusal number place old = values number place 0 old
 abbrev pub acceptance : List ℕ → List ℕ → RewriteAnswer
 acceptance r old = values 0 0 (length r) (r ++ drop (length r) old)
 
--- number, place, found and count of what the code answers
-abbrev pub outcome_verdict : Outcome → Verdict
-outcome_verdict (outcome.Accepted n) = verdict.accepted 0 0
-outcome_verdict (outcome.RuleRefused r) = reader.refusal_verdict r
-outcome_verdict outcome.ShortBuffer = verdict.refused 15 0
-
--- n of what the code answers
-abbrev pub text_length : Outcome → ℕ
-text_length (outcome.Accepted n) = n
-text_length (outcome.RuleRefused r) = 0
-text_length outcome.ShortBuffer = 0
+-- 02 f): number and place of each refusal
+abbrev pub refusal_verdict : Refusal → Verdict
+refusal_verdict (why.Rule r) = reader.refusal_verdict r
+refusal_verdict why.ShortBuffer = verdict.refused 15 0
 
 -- a verdict, with n and the buffer
 abbrev pub told : Verdict → ℕ → List ℕ → RewriteAnswer
 told v n out = record { number = v.number; place = v.place; found = v.found; count = v.count; n = n; out = out }
 
--- the values of what the code answers, with the buffer at exit
-abbrev pub rewrite_values : Outcome → List ℕ → RewriteAnswer
-rewrite_values o out = told (outcome_verdict o) (text_length o) out
+-- the values of what the code answers, with the buffer at exit: a refusal has no n
+abbrev pub rewrite_values : Result ℕ Refusal → List ℕ → RewriteAnswer
+rewrite_values (Ok n) out = told (verdict.accepted 0 0) n out
+rewrite_values (Err r) out = told (refusal_verdict r) 0 out

@@ -8,36 +8,31 @@ use rule::stars::is_double;
 pub fn new_length(text: &[u8]) -> usize
     ensures { result ≡ length (rewritten text.now) }
 {
-    let mut before: u8 = 0;
+    let mut before = 0;
     let mut n = 0;
-    let mut i = 0;
-    while i < text.len() {
-        let b = text[i];
+    for &b in text {
         if !is_double(before, b) {
             n += 1;
         }
         before = b;
-        i += 1;
     }
     n
 }
 
-// Writes the new text to the front of a buffer, and leaves the rest.
+// Writes the new text to the front of a buffer, and leaves the rest. It walks as `new_length` does: of one walk with a closure that changes
+// what it captures a proof would know nothing.
 pub fn fill(text: &[u8], out: &mut [u8])
     requires { length (rewritten text.now) ≤ length out.old }
     ensures { out.new
         ≡ rewritten text.now ++ drop (length (rewritten text.now)) out.old }
 {
-    let mut before: u8 = 0;
+    let mut before = 0;
     let mut n = 0;
-    let mut i = 0;
-    while i < text.len() {
-        let b = text[i];
+    for &b in text {
         if !is_double(before, b) {
             out[n] = b;
             n += 1;
         }
         before = b;
-        i += 1;
     }
 }

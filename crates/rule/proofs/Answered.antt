@@ -10,10 +10,10 @@ use lib.Dec.{eqb, ltb}
 use borrow.Author.Tests.{eqb-true, eqb-false, ltb-true, ltb-false, eq-eqb, ne_eqb, lt-ltb, le-ltb}
 use Rattle.expression.specs.Tree.{Tree, size, specials}
 use Rattle.expression.specs.Grammar.{Alt, Reads, Sentence, Longest}
-use Rattle.expression.specs.Scan.{scanned, Means, SentenceOf}
+use Rattle.expression.specs.Scan.{ScanResult, counted, scanned, Means, SentenceOf}
 use Rattle.expression.specs.TreeOf.{tree_of}
-use Rattle.expression.specs.declared.ScanResult.{ScanResult}
-use Rattle.expression.specs.declared.ScanResult.TheVariants.{Complete, Broken}
+use Rattle.expression.specs.declared.Size.{Size}
+use Rattle.std.proofs.Common.{Ok, Err}
 use Rattle.expression.proofs.ScanAccepts.{sentence_found}
 use Rattle.event.proofs.LeadingLaws.{leading_found, leading_is}
 use Rattle.event.proofs.Tests.{choose}
@@ -27,14 +27,11 @@ use Rattle.expression.proofs.OneReading.{tree_is}
 use Rattle.expression.proofs.UnorderedLaws.{unordered_first, ordered_all, first_is, ordered_is, inside_text}
 use Rattle.verdict.specs.Verdicts.{refused}
 use Rattle.verdict.specs.declared.Verdict.{Verdict}
-use Rattle.rule.specs.RuleAnswer.{RuleAnswer, is_rule_byte, refusal, acceptance, values, nodes_for, rule_values, refusal_verdict, unused, told}
-use Rattle.rule.specs.RuleComputed.{foreign_at, ordered, after_scan, sentence_outcome, no_double, size_outcome, sized, nodes_with, rule_answer}
+use Rattle.rule.specs.RuleAnswer.{RuleAnswer, is_rule_byte, refusal, acceptance, values, nodes_for, refusal_verdict, unused, told}
+use Rattle.rule.specs.RuleComputed.{foreign_at, ordered, after_scan, sentence_outcome, no_double, size_outcome, sized, rule_outcome, Outcome, answer_to, rule_answer}
 use Rattle.rule.specs.RuleMeaning.{FitsLength, Legal, WellFormed, IllFormed, empty_text, long_text, foreign_byte, no_sentence, unordered_set}
 use Rattle.rule.specs.RuleMeaning.{RuleMeaning, ill_formed, double_star, many_nodes, many_specials, accepted}
 use Rattle.rule.specs.Reader.{Readable}
-use Rattle.rule.specs.declared.Answer.{Answer}
-use Rattle.rule.specs.declared.Outcome.{Outcome}
-use Rattle.rule.specs.declared.Outcome.TheVariants.{Accepted, Refused}
 use Rattle.rule.specs.declared.Refusal.{Refusal}
 use Rattle.rule.specs.declared.Refusal.TheVariants.{EmptyText, LongText, ForeignByte, NoSentence, UnorderedSet, DoubleStar, ManyNodes, ManySpecials}
 
@@ -48,8 +45,8 @@ pub record WellFormedOf (s : List ℕ) (m k : ℕ) : Type 0 where
 
 -- what an outcome says of the text
 abbrev pub Says : List ℕ → Outcome → Type 0
-Says s (Accepted m k) = WellFormedOf s m k
-Says s (Refused r) = IllFormed s (refusal_verdict r).number (refusal_verdict r).place
+Says s (Ok z) = WellFormedOf s z.m z.k
+Says s (Err r) = IllFormed s (refusal_verdict r).number (refusal_verdict r).place
 
 ordered_says : (s : List ℕ) → Legal s → (m k : ℕ) → SentenceOf s m k → Says s (ordered s m k)
 ordered_says s a m k w =
@@ -62,8 +59,8 @@ ordered_says s a m k w =
     })
 
 scan_says : (s : List ℕ) → Legal s → (x : ScanResult) → Means s x → Says s (after_scan s x)
-scan_says s a (Complete m k) w = ordered_says s a m k w
-scan_says s a (Broken n) w = no_sentence a w.none_such w.place
+scan_says s a (Ok z) w = ordered_says s a z.m z.k w
+scan_says s a (Err n) w = no_sentence a w.none_such w.place
 
 legal : (s : List ℕ) → FitsLength s → length s ≤ foreign_at s → Legal s
 legal s a h =
@@ -88,17 +85,17 @@ sentence_says s =
         (omega arith, omega arith)
 
 -- at each of the first three tests, and past them
-pub at_empty : (s : List ℕ) → length s ≡ 0 → sentence_outcome s ≡ Refused EmptyText
+pub at_empty : (s : List ℕ) → length s ≡ 0 → sentence_outcome s ≡ Err EmptyText
 unfolding sentence_outcome
 at_empty s e = simp (eq-eqb (length s) 0 e)
 
-pub at_long : (s : List ℕ) → 255 < length s → sentence_outcome s ≡ Refused LongText
+pub at_long : (s : List ℕ) → 255 < length s → sentence_outcome s ≡ Err LongText
 unfolding sentence_outcome
 at_long s h =
     let n : length s ≡ 0 → ⊥ = λ e. omega arith in
     simp (ne_eqb (length s) 0 n, lt-ltb 255 (length s) h)
 
-pub at_foreign : (s : List ℕ) → FitsLength s → foreign_at s < length s → sentence_outcome s ≡ Refused (ForeignByte (foreign_at s))
+pub at_foreign : (s : List ℕ) → FitsLength s → foreign_at s < length s → sentence_outcome s ≡ Err (ForeignByte (foreign_at s))
 unfolding sentence_outcome
 at_foreign s a h =
     let n : length s ≡ 0 → ⊥ = λ e. omega arith in
@@ -125,22 +122,22 @@ at_most s m n a b = go (dec_lt n m)
     go (yes h) = absurd (b.longest m h a.within a.viable)
     go (no h) = omega arith
 
-broken_is : (s : List ℕ) (n : ℕ) → (Sentence s → ⊥) → Longest s n → (x : ScanResult) → Means s x → after_scan s x ≡ Refused (NoSentence n)
-broken_is s n none l (Complete m k) w = absurd (none (w.tree, w.reads))
-broken_is s n none l (Broken j) w =
+broken_is : (s : List ℕ) (n : ℕ) → (Sentence s → ⊥) → Longest s n → (x : ScanResult) → Means s x → after_scan s x ≡ Err (NoSentence n)
+broken_is s n none l (Ok z) w = absurd (none (w.tree, w.reads))
+broken_is s n none l (Err j) w =
     let a = at_most s j n w.place l in
     let b = at_most s n j l w.place in
     let e : j ≡ n = omega arith in
-    ap (λ (i : ℕ). Refused (NoSentence i)) e
+    ap (λ (i : ℕ). Err (NoSentence i)) e
 
 -- a text that fits is accepted
-pub well_formed_is : {s : List ℕ} {t : Tree} → WellFormed s t → sentence_outcome s ≡ Accepted (size t) (specials t)
+pub well_formed_is : {s : List ℕ} {t : Tree} → WellFormed s t → sentence_outcome s ≡ counted (size t) (specials t)
 well_formed_is {s} f = of_reading f.legal f.reads ∙ simp (le-ltb (unordered_at s) (length s) (ordered_is f.ordered))
 
 -- and one that does not is refused with its number and place
 pub record RefusedAs (s : List ℕ) (n p : ℕ) : Type 0 where
   pub why : Refusal
-  pub outcome : sentence_outcome s ≡ Refused why
+  pub outcome : sentence_outcome s ≡ Err why
   pub verdict : refusal_verdict why ≡ refused n p
 
 pub ill_formed_is : {s : List ℕ} {n p : ℕ} → IllFormed s n p → RefusedAs s n p
@@ -148,19 +145,15 @@ ill_formed_is {s} (empty_text e) = record { why = EmptyText; outcome = at_empty 
 ill_formed_is {s} (long_text h) = record { why = LongText; outcome = at_long s h; verdict = refl }
 ill_formed_is {s} (foreign_byte {n = n} a h l b) =
     let f = leading_is is_rule_byte s n (record { within = omega arith; before = l; there = λ h. b }) in
-    record { why = ForeignByte n; outcome = at_foreign s a (omega arith) ∙ ap (λ (i : ℕ). Refused (ForeignByte i)) f; verdict = refl }
+    record { why = ForeignByte n; outcome = at_foreign s a (omega arith) ∙ ap (λ (i : ℕ). Err (ForeignByte i)) f; verdict = refl }
 ill_formed_is {s} (no_sentence {n = n} a none l) =
     record { why = NoSentence n; outcome = past s a ∙ broken_is s n none l (scanned s) (scan_right s); verdict = refl }
 ill_formed_is {s} (unordered_set {n = n} a r f) =
     let l = lt-ltb (unordered_at s) (length s) (omega (arith, first_is f, inside_text s n f.there)) in
-    record { why = UnorderedSet n; outcome = of_reading a r ∙ simp l (ap (λ (i : ℕ). Refused (UnorderedSet i)) (first_is f)); verdict = refl }
+    record { why = UnorderedSet n; outcome = of_reading a r ∙ simp l (ap (λ (i : ℕ). Err (UnorderedSet i)) (first_is f)); verdict = refl }
 
 -- ---- the answer means what it says
--- the whole answer to an outcome
-abbrev pub answer_to : List ℕ → Outcome → RuleAnswer
-answer_to s o = rule_values o (nodes_with s o)
-
-refused_values : (r : Refusal) → rule_values (Refused r) (unused 64) ≡ refusal (refusal_verdict r).number (refusal_verdict r).place
+refused_values : (r : Refusal) → told (refusal_verdict r) 0 0 (unused 64) ≡ refusal (refusal_verdict r).number (refusal_verdict r).place
 refused_values EmptyText = refl
 refused_values LongText = refl
 refused_values (ForeignByte n) = refl
@@ -170,7 +163,7 @@ refused_values (DoubleStar n) = refl
 refused_values ManyNodes = refl
 refused_values ManySpecials = refl
 
-accepted_answer : {s : List ℕ} {t : Tree} → Reads Alt 0 s t → answer_to s (Accepted (size t) (specials t)) ≡ acceptance t
+accepted_answer : {s : List ℕ} {t : Tree} → Reads Alt 0 s t → answer_to s (counted (size t) (specials t)) ≡ acceptance t
 accepted_answer {t = t} r = ap (λ (x : Tree). values 0 0 (size t) (specials t) (nodes_for x)) (tree_is r)
 
 size_means : (s : List ℕ) (t : Tree) → WellFormed s t → NoDouble s → RuleMeaning s (answer_to s (size_outcome (size t) (specials t)))
@@ -188,16 +181,16 @@ size_means s t f d =
       special = ltb-false _ _ g;
     }))))
 
-no_double_means : (s : List ℕ) (t : Tree) → WellFormed s t → RuleMeaning s (answer_to s (sized (no_double s (Accepted (size t) (specials t)))))
+no_double_means : (s : List ℕ) (t : Tree) → WellFormed s t → RuleMeaning s (answer_to s (sized (no_double s (counted (size t) (specials t)))))
 no_double_means s t f =
     choose (λ (o : Outcome). RuleMeaning s (answer_to s (sized o))) (ltb (double_at s) (length s)) (λ e. double_star f (first_double s (ltb-true _ _ e)))
     (λ e. size_means s t f (no_double_lem s (ltb-false _ _ e)))
 
 outcome_means : (s : List ℕ) (o : Outcome) → Says s o → RuleMeaning s (answer_to s (sized (no_double s o)))
-outcome_means s (Accepted m k) w =
-    subst₂ (λ (i j : ℕ). RuleMeaning s (answer_to s (sized (no_double s (Accepted i j))))) (sym w.nodes) (sym w.special)
+outcome_means s (Ok z) w =
+    subst₂ (λ (i j : ℕ). RuleMeaning s (answer_to s (sized (no_double s (counted i j))))) (sym w.nodes) (sym w.special)
     (no_double_means s w.tree w.formed)
-outcome_means s (Refused r) w = subst (RuleMeaning s) (sym (refused_values r)) (ill_formed w)
+outcome_means s (Err r) w = subst (RuleMeaning s) (sym (refused_values r)) (ill_formed w)
 
 pub answer_means : (s : List ℕ) → RuleMeaning s (rule_answer s)
 unfolding rule_answer
@@ -226,43 +219,43 @@ answer_is {s} (accepted {t = t} p) =
     sym (of_no_double f p.no_double_lem ∙ simp (le-ltb 64 (size t) p.nodes, le-ltb 7 (specials t) p.special) (accepted_answer p.reads))
 
 -- ---- what the proofs of the functions cite
--- the answer of the code
-abbrev pub answer_of : Answer → RuleAnswer
-answer_of r = rule_values r.outcome r.nodes
-
-pub with_meaning : {s : List ℕ} {a : RuleAnswer} → a ≡ rule_answer s → (a ≡ rule_answer s) × RuleMeaning s a
-with_meaning {s} e = (e, subst (RuleMeaning s) (sym e) (answer_means s))
-
--- a text that the first checks accept, and no star of which stands directly after a star
-pub past_stars : (s : List ℕ) {m k : ℕ} {o : Outcome} → sentence_outcome s ≡ Accepted m k → length s ≤ double_at s → size_outcome m k ≡ o
-    → rule_answer s ≡ answer_to s o
-past_stars s e h f = answer_after s e ∙ simp (le-ltb (double_at s) (length s) h) (ap (answer_to s) f)
-
-accepts : Outcome → ℕ
-accepts (Accepted m k) = 1
-accepts (Refused r) = 0
-
-refused_apart : {r : Refusal} {m k : ℕ} → Refused r ≡ Accepted m k → ⊥
-unfolding accepts
-refused_apart e = let n = ap accepts e in omega arith
-
 -- what the size check accepts
-size_passed : (m k : ℕ) {i j : ℕ} → size_outcome m k ≡ Accepted i j → (m ≤ 64) × (k ≤ 7)
-size_passed m k {i} {j} =
-    let Q : Outcome → Type 0 = λ o. o ≡ Accepted i j → (m ≤ 64) × (k ≤ 7) in
-    choose Q (ltb 64 m) (λ e f. absurd (refused_apart f))
-    (λ e. choose Q (ltb 7 k) (λ g f. absurd (refused_apart f)) (λ g f. (ltb-false _ _ e, ltb-false _ _ g)))
+size_passed : (y : Size) {z : Size} → size_outcome y.m y.k ≡ Ok z → (◌≡◌ {A = Outcome} (Ok y) (Ok z)) × (z.m ≤ 64) × (z.k ≤ 7)
+size_passed y {z} =
+    let Q : Outcome → Type 0 = λ o. o ≡ Ok z → (◌≡◌ {A = Outcome} (Ok y) (Ok z)) × (z.m ≤ 64) × (z.k ≤ 7) in
+    choose Q (ltb 64 y.m) (λ e f. absurd (cc))
+    (λ e. choose Q (ltb 7 y.k) (λ g f. absurd (cc))
+    (λ g f. let q : y ≡ z = cc in let b = subst (λ (u : Size). (u.m ≤ 64) × (u.k ≤ 7)) q (ltb-false _ _ e, ltb-false _ _ g) in (f, b.0, b.1)))
+
+-- what all checks accept
+passed_all : (s : List ℕ) (o : Outcome) {z : Size} → sized (no_double s o) ≡ Ok z → (o ≡ Ok z) × (z.m ≤ 64) × (z.k ≤ 7)
+passed_all s (Ok y) {z} f =
+    let Q : Outcome → Type 0 = λ o. sized o ≡ Ok z → (◌≡◌ {A = Outcome} (Ok y) (Ok z)) × (z.m ≤ 64) × (z.k ≤ 7) in
+    choose Q (ltb (double_at s) (length s)) (λ e f. absurd (cc)) (λ e f. size_passed y f) f
+passed_all s (Err r) {z} f = absurd (cc)
+
+pub rule_sizes : (s : List ℕ) {z : Size} → rule_outcome s ≡ Ok z → (z.m ≤ 64) × (z.k ≤ 7)
+rule_sizes s e = let p = passed_all s (sentence_outcome s) e in (p.1, p.2)
 
 -- so that it can be read
-pub readable : {s : List ℕ} {m k i j : ℕ} → sentence_outcome s ≡ Accepted m k → size_outcome m k ≡ Accepted i j → (length s ≤ 255) × Readable s
-readable {s} {m} {k} e f =
-    let w = subst (Says s) e (sentence_says s) in
+pub readable : (s : List ℕ) {z : Size} → rule_outcome s ≡ Ok z → (length s ≤ 255) × Readable s
+readable s {z} e =
+    let p = passed_all s (sentence_outcome s) e in
+    let w = subst (Says s) p.0 (sentence_says s) in
     let t = tree_is w.formed.reads in
-    let h = (size_passed m k f).0 in
+    let h = p.1 in
     (w.formed.legal.fits.1, record { sentence = subst (Reads Alt 0 s) (sym t) w.formed.reads; few = omega (arith, w.nodes, ap (λ (x : Tree). size x) t) })
 
+-- the code's answer, by the outcome of the checks
+pub answered : (s : List ℕ) {o : Outcome} → rule_outcome s ≡ o → answer_to s o ≡ rule_answer s
+unfolding rule_answer
+answered s e = sym (ap (answer_to s) e)
+
+pub with_meaning : {s : List ℕ} {a : RuleAnswer} → a ≡ rule_answer s → RuleMeaning s a
+with_meaning {s} e = subst (RuleMeaning s) (sym e) (answer_means s)
+
 -- a text that the scan finds to be a sentence, with the tree that is computed
-pub complete : {s : List ℕ} {m k : ℕ} → scanned s ≡ Complete m k
+pub complete : {s : List ℕ} {m k : ℕ} → scanned s ≡ counted m k
     → Reads Alt 0 s (tree_of s) × (m ≡ size (tree_of s)) × (k ≡ specials (tree_of s))
 complete {s} {m} {k} e =
     let w : SentenceOf s m k = subst (Means s) e (scan_right s) in

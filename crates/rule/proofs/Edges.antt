@@ -11,14 +11,14 @@ use Rattle.event.specs.LetterSets.{bit_of, single, every, gathered, letters_of}
 use Rattle.event.specs.Text.{bytes}
 use Rattle.expression.specs.Leaves.{leaf_at}
 use Rattle.expression.specs.Parse.{parse}
-use Rattle.expression.specs.Scan.{scan_from}
+use Rattle.expression.specs.Scan.{scan_from, counted}
 use Rattle.expression.specs.Tree.{letter, concatenation, complement, star}
 use Rattle.expression.specs.OrderComputed.{unordered_from}
 use Rattle.expression.specs.StarsComputed.{double_from}
 use Rattle.expression.specs.TreeOf.{tree_of}
 use Rattle.rule.specs.RuleAnswer.{refusal, acceptance}
 use Rattle.rule.specs.RuleComputed.{sentence_outcome, stored_outcome, rule_answer}
-use Rattle.rule.specs.declared.Outcome.TheVariants.{Accepted, Refused}
+use Rattle.std.proofs.Common.{Err}
 use Rattle.rule.specs.declared.Refusal.TheVariants.{NoSentence, ManyNodes, ManySpecials}
 
 -- "`)` gives 4 at 0, `(a` at 2, `a)` at 1, `()` at 1, `a|` at 2", "eight give 6"
@@ -82,6 +82,6 @@ one_star_each = refl
 
 -- "all rule text checks but 21", on the text as given
 stored : map (λ (s : List ℕ). stored_outcome s) (bytes "a**" ∷ bytes "a**|" ∷ (97 ∷ replicate 63 42) ∷ (97 ∷ replicate 64 42) ∷ bytes "!!!!!!!!a**" ∷ [])
-    ≡ Accepted 3 0 ∷ Refused (NoSentence 4) ∷ Accepted 64 0 ∷ Refused ManyNodes ∷ Refused ManySpecials ∷ []
+    ≡ counted 3 0 ∷ Err (NoSentence 4) ∷ counted 64 0 ∷ Err ManyNodes ∷ Err ManySpecials ∷ []
 unfolding sentence_outcome leading is_event scan_from unordered_from
 stored = refl

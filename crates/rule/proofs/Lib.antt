@@ -2,6 +2,7 @@
 pub mod Answered
 pub mod Rows
 pub mod ReadBytes
+pub mod KindsAgain
 mod Edges
 -- Laws that the proofs of its functions cite.
 mod ScanLaws

@@ -17,8 +17,11 @@ use Rattle.expression.specs.Parse.{Call, alt, alt_rest, conj, conj_rest, seq, se
 use Rattle.expression.specs.declared.Kind.{Kind}
 use Rattle.expression.specs.declared.Kind.TheVariants.{Union, Intersection, Concatenation, Complement, Star}
 use Rattle.expression.proofs.Texts.{start_some}
-use Rattle.rule.specs.Reader.{State, Done, at, add, pushed, skipped, least}
-use Rattle.rule.specs.declared.levels.Reading.{Reading}
+use Rattle.rule.specs.Reader.{State, Done, add, pushed, moved, least}
+
+-- one byte more
+abbrev skipped : State → State
+skipped r = moved r 1
 
 abbrev run : ℕ → Call → List ℕ → State → State
 run f l s q = parse add f l s q
@@ -84,10 +87,7 @@ started_at s n e h g =
     let t = start_at s n e h g in
     (omega (arith, length-drop n s, start_some (drop n s) t), t)
 
--- two names of one reading, and of one state
-pub named : {x y : Reading} (l : List ℕ) → x ≡ y → at x l ≡ at y l
-named l e = ap (λ (r : Reading). at r l) e
-
+-- two names of one state
 pub same_offset : {x y : State} → x ≡ y → x.1 ≡ y.1
 same_offset e = ap (λ (r : State). r.1) e
 
@@ -130,11 +130,10 @@ post_done = goes_on post atom post_rest (λ f s q. refl) (omega arith) (omega ar
 
 -- ---- the loops
 -- A loop that began at n₀ in the state q₀ has come to n in the state q:
--- what the rest R makes of q there, it makes of q₀ where the loop began. The buffer keeps its length.
+-- what the rest R makes of q there, it makes of q₀ where the loop began.
 pub record Upto (R : Call) (s : List ℕ) (start : ℕ) (q₀ : State) (n₀ : ℕ) (q : State) (n : ℕ) : Type 0 where
   pub within : n ≤ length s
   pub place : q.1 ≡ start + n
-  pub room : length q.0.0 ≡ 128
   pub rest : (z : State) → Done R (drop n s) q z → Done R (drop n₀ s) q₀ z
 
 -- the loop's test passes only of a byte that is there
@@ -147,16 +146,15 @@ module _ {R : Call} {s : List ℕ} {start : ℕ} {q₀ : State} {n₀ : ℕ} {q 
 
 -- a turn of a loop: from q at n to y, which stands where its offset says
 turn : (R : Call) (s : List ℕ) (start : ℕ) (q₀ : State) (n₀ : ℕ) (q : State) (n : ℕ) (y w : State) (k : ℕ)
-    → Upto R s start q₀ n₀ q n → y ≡ w → length y.0.0 ≡ 128 → w.1 ≡ q.1 + k → n + k ≤ length s
+    → Upto R s start q₀ n₀ q n → y ≡ w → w.1 ≡ q.1 + k → n + k ≤ length s
     → ((z : State) → Done R (drop k (drop n s)) w z → Done R (drop n s) q z) → Upto R s start q₀ n₀ y (y.1 - start)
-turn R s start q₀ n₀ q n y w k i g u o l law =
+turn R s start q₀ n₀ q n y w k i g o l law =
     let b = same_offset g in
     let p = i.place in
     let m : n + k ≡ y.1 - start = omega arith in
     record {
       within = omega arith;
       place = omega arith;
-      room = u;
       rest = λ z c. i.rest z (law z
           (subst₂ (λ (u : List ℕ) (r : State). Done R u r z) (sym (drop-drop k n s ∙ ap (λ (j : ℕ). drop j s) m)) g c));
     }
@@ -181,13 +179,13 @@ module _ (R F : Call) (K : Kind) (P : List ℕ → Type 0) (E : List ℕ → Lis
         ∙ sym (step f s r t))
 
     turned : {s : List ℕ} {start : ℕ} {q₀ : State} {n₀ : ℕ} {q : State} {n : ℕ} {p y : State} → Upto R s start q₀ n₀ q n
-        → (n < length s) × P (drop n s) → Done F (E (drop n s)) (B q) p → y ≡ pushed p q.1 K → length y.0.0 ≡ 128
+        → (n < length s) × P (drop n s) → Done F (E (drop n s)) (B q) p → y ≡ pushed p q.1 K
         → Upto R s start q₀ n₀ y (y.1 - start)
-    turned {s} {start} {q₀} {n₀} {q} {n} {p} {y} i t d g u =
+    turned {s} {start} {q₀} {n₀} {q} {n} {p} {y} i t d g =
         let l = length-drop n s in
         let h : 0 < length (drop n s) = omega (arith, t.0) in
         let v = moves (drop n s) q p h d in
-        turn R s start q₀ n₀ q n y (pushed p q.1 K) (p.1 - q.1) i g u (omega arith) (omega (arith, t.0))
+        turn R s start q₀ n₀ q n y (pushed p q.1 K) (p.1 - q.1) i g (omega arith) (omega (arith, t.0))
         (λ z c. more (drop n s) q p z h t.1 d c)
 
 abbrev next : ℕ → List ℕ → Type 0
@@ -195,36 +193,36 @@ next b s = eqb (get_or s 0 0) b ≡ true
 
 module _ {s : List ℕ} {start : ℕ} {q₀ : State} {n₀ : ℕ} {q : State} {n : ℕ} {z : State} {x : ℕ} where
   pub alt_turned : {y p : State} → Upto alt_rest s start q₀ n₀ q n → x ≡ get_or (tail n s) 0 0 → x ≡ 124 → y ≡ skipped q
-      → Done conj (tail (n + 1) s) y p → z ≡ pushed p q.1 Union → length z.0.0 ≡ 128 → Upto alt_rest s start q₀ n₀ z (z.1 - start)
+      → Done conj (tail (n + 1) s) y p → z ≡ pushed p q.1 Union → Upto alt_rest s start q₀ n₀ z (z.1 - start)
   unfolding parse
-  alt_turned i e h w d g u =
+  alt_turned i e h w d g =
       turned alt_rest conj Union (next 124) (drop 1) skipped (λ f s r t. rw t) (λ s n. omega (arith, length-drop 1 s))
       (λ s. omega arith) (λ s r q n a. (omega (arith, a.low), omega (arith, a.high, length-drop 1 s))) i (seen_at s n e h (omega arith))
-      (past_sign conj n s w d) g u
+      (past_sign conj n s w d) g
 
   pub conj_turned : {y p : State} → Upto conj_rest s start q₀ n₀ q n → x ≡ get_or (tail n s) 0 0 → x ≡ 38 → y ≡ skipped q
-      → Done seq (tail (n + 1) s) y p → z ≡ pushed p q.1 Intersection → length z.0.0 ≡ 128
+      → Done seq (tail (n + 1) s) y p → z ≡ pushed p q.1 Intersection
       → Upto conj_rest s start q₀ n₀ z (z.1 - start)
   unfolding parse
-  conj_turned i e h w d g u =
+  conj_turned i e h w d g =
       turned conj_rest seq Intersection (next 38) (drop 1) skipped (λ f s r t. rw t) (λ s n. omega (arith, length-drop 1 s))
       (λ s. omega arith) (λ s r q n a. (omega (arith, a.low), omega (arith, a.high, length-drop 1 s))) i (seen_at s n e h (omega arith))
-      (past_sign seq n s w d) g u
+      (past_sign seq n s w d) g
 
   pub seq_turned : {p : State} {t : Bool} → Upto seq_rest s start q₀ n₀ q n → x ≡ get_or (tail n s) 0 0 → t ≡ is_start x → t ≡ true
-      → Done pre (tail n s) q p → z ≡ pushed p q.1 Concatenation → length z.0.0 ≡ 128 → Upto seq_rest s start q₀ n₀ z (z.1 - start)
+      → Done pre (tail n s) q p → z ≡ pushed p q.1 Concatenation → Upto seq_rest s start q₀ n₀ z (z.1 - start)
   unfolding parse
-  seq_turned i e h t d g u =
+  seq_turned i e h t d g =
       turned seq_rest pre Concatenation (λ s. is_start (get_or s 0 0) ≡ true) (λ s. s) (λ r. r) (λ f s r t. rw t)
       (λ s n. omega arith) (λ s. omega arith)
-      (λ s r q n a. (omega (arith, a.low), omega (arith, a.high))) i (started_at s n e h t) (on_tail pre n s refl d) g u
+      (λ s r q n a. (omega (arith, a.low), omega (arith, a.high))) i (started_at s n e h t) (on_tail pre n s refl d) g
 
   pub post_turned : {y : State} → Upto post_rest s start q₀ n₀ q n → x ≡ get_or (tail n s) 0 0 → x ≡ 42 → y ≡ pushed q q.1 Star
-      → z ≡ skipped y → length z.0.0 ≡ 128 → Upto post_rest s start q₀ n₀ z (z.1 - start)
+      → z ≡ skipped y → Upto post_rest s start q₀ n₀ z (z.1 - start)
   unfolding parse
-  post_turned i e h g w u =
+  post_turned i e h g w =
       let t = seen_at s n e h (omega arith) in
-      turn post_rest s start q₀ n₀ q n z (skipped (pushed q q.1 Star)) 1 i (w ∙ ap skipped g) u (omega arith) (omega (arith, t.0))
+      turn post_rest s start q₀ n₀ q n z (skipped (pushed q q.1 Star)) 1 i (w ∙ ap skipped g) (omega arith) (omega (arith, t.0))
       (λ z c. star z t c)
     where
       star : (z : State) → (n < length s) × next 42 (drop n s)

@@ -11,11 +11,9 @@ use Rattle.event.specs.Event.{is_event}
 use Rattle.expression.specs.Bytes.{is_leaf}
 use Rattle.expression.specs.declared.Stage.{Stage}
 use Rattle.expression.specs.declared.Stage.TheVariants.{Operand, Ended, Opened, Letters}
-use Rattle.expression.specs.Scan.{step_at, step_of, scan_from, finish, after_step}
+use Rattle.expression.specs.Scan.{step_at, step_of, scan_from, finish, after_step, ScanStep}
 use Rattle.expression.specs.declared.ScanState.{ScanState}
-use Rattle.expression.specs.declared.ScanStep.{ScanStep}
-use Rattle.expression.specs.declared.ScanStep.TheVariants.{Stuck, Next}
-use Rattle.expression.specs.declared.ScanResult.TheVariants.{Broken}
+use Rattle.std.proofs.Common.{Some, None, Err}
 use Rattle.event.proofs.Tails.{rest_at}
 use Rattle.event.proofs.Tests.{choose}
 
@@ -30,8 +28,8 @@ pub record Near (q p : ScanState) : Type 0 where
   pub specials : p.specials ≤ q.specials + 1
 
 abbrev Within : ScanState → ScanStep → Type 0
-Within q Stuck = Unit {0}
-Within q (Next p) = Near q p
+Within q None = Unit {0}
+Within q (Some p) = Near q p
 
 step_near : (q : ScanState) (b : ℕ) → Within q (step_of q b)
 step_near q b =
@@ -49,7 +47,7 @@ step_near q b =
     go Opened = both (Within q) (is_event b) (omega arith) tt
     go Letters = both (Within q) (eqb b 93) (omega arith) (both (Within q) (is_event b) (omega arith) tt)
 
-pub near : (q p : ScanState) (b : ℕ) → Next p ≡ step_of q b → Near q p
+pub near : (q p : ScanState) (b : ℕ) → Some p ≡ step_of q b → Near q p
 near q p b e = subst (Within q) (sym e) (step_near q b)
 
 -- one turn of the scan
@@ -59,12 +57,12 @@ unfolding scan_from
 turn s i q h o e =
     ap (λ (l : List ℕ). scan_from l i q) (rest_at s i h) ∙ ap (after_step (scan_from (drop (i + 1) s)) i) (sym e)
 
-pub turn_stuck : (s : List ℕ) (i : ℕ) (q : ScanState) → i < length s → Stuck ≡ step_of q (get_or s i 0) → scan_from (drop i s) i q ≡ Broken i
-turn_stuck s i q h e = turn s i q h Stuck e
+pub turn_stuck : (s : List ℕ) (i : ℕ) (q : ScanState) → i < length s → None ≡ step_of q (get_or s i 0) → scan_from (drop i s) i q ≡ Err i
+turn_stuck s i q h e = turn s i q h None e
 
-pub turn_on : (s : List ℕ) (i : ℕ) (q p : ScanState) → i < length s → Next p ≡ step_of q (get_or s i 0)
+pub turn_on : (s : List ℕ) (i : ℕ) (q p : ScanState) → i < length s → Some p ≡ step_of q (get_or s i 0)
     → scan_from (drop i s) i q ≡ scan_from (drop (i + 1) s) (i + 1) p
-turn_on s i q p h e = turn s i q h (Next p) e
+turn_on s i q p h e = turn s i q h (Some p) e
 
 pub turn_end : (s : List ℕ) (i : ℕ) (q : ScanState) → i ≡ length s → scan_from (drop i s) i q ≡ finish i q
 unfolding scan_from

@@ -2,5 +2,6 @@
 pub mod RuleAnswer
 pub mod RuleMeaning
 pub mod RuleComputed
+pub mod KindOf
 -- What its private functions do.
 pub mod Reader

@@ -1,54 +1,40 @@
 -- What the private functions of the recursive reader do, which a buyer needn't read. Assumes nothing.
-use Rattle.std.specs.Prelude.{ℕ, ◌+◌, ◌*◌, ◌%◌, ◌≤◌, min, ◌≡◌, List, [], ◌∷◌, cond, length, set, ltb, eqb}
-use Rattle.expression.specs.KindNumber.{kind_number}
+use Rattle.std.specs.Prelude.{ℕ, ◌+◌, ◌≤◌, min, ◌≡◌, List, cond, length, set, ltb}
 use Rattle.expression.specs.Tree.{size}
 use Rattle.expression.specs.TreeOf.{tree_of}
 use Rattle.expression.specs.Grammar.{Alt, Reads}
 use Rattle.expression.specs.Parse.{Call, alt, alt_rest, conj, conj_rest, seq, seq_rest, pre, post, post_rest, atom, measure, parse}
 use Rattle.expression.specs.declared.Kind.{Kind}
-use Rattle.expression.specs.declared.Kind.TheVariants.{Empty, Epsilon, Letter, Union, Intersection, Concatenation, Complement, Star}
 use Rattle.expression.specs.declared.Node.{Node}
 use Rattle.rule.specs.RuleAnswer.{nodes_for}
-use Rattle.rule.specs.declared.levels.Reading.{Reading}
+use Rattle.expression.specs.declared.ScanState.{ScanState}
+use Rattle.rule.specs.declared.levels.Reader.{Reader}
 
--- the kind that a number stands for
-abbrev pub kind_of : ℕ → Kind
-kind_of k =
-    cond (eqb k 0) Empty
-    (cond (eqb k 1) Epsilon
-    (cond (eqb k 2) Union
-    (cond (eqb k 3) Intersection
-    (cond (eqb k 4) Concatenation
-    (cond (eqb k 5) Complement
-    (cond (eqb k 6) Star (Letter (record { bits = k % 4503599627370496 }))))))))
+-- the numbers of a scan of at most 255 bytes
+abbrev pub Few : ScanState → Type 0
+Few q = (q.depth ≤ 255) × (q.nodes ≤ 510) × (q.specials ≤ 255)
 
--- records from a buffer of numbers, two for each
-abbrev pub nodes_of : List ℕ → List Node
-nodes_of [] = []
-nodes_of (o ∷ []) = []
-nodes_of (o ∷ k ∷ l) = record { offset = o; kind = kind_of k } ∷ nodes_of l
-
--- the buffer, and how many records are written
-abbrev pub Records : Type 0
-Records = List ℕ × ℕ
+-- the records, and how many are written
+abbrev pub Written : Type 0
+Written = List Node × ℕ
 
 -- one record more, where there is room
-abbrev pub add : Records → ℕ → Kind → Records
-add r o k = cond (ltb r.1 64) (set (set r.0 (2 * r.1) o) (2 * r.1 + 1) (kind_number k), r.1 + 1) r
+abbrev pub add : Written → ℕ → Kind → Written
+add r o k = cond (ltb r.1 64) (set r.0 r.1 (record { offset = o; kind = k }), r.1 + 1) r
 
--- where the reader stands: the buffer and the records in it, and the offset of the unread text
+-- where the reader stands: the records and how many are written, and the offset of the unread text
 abbrev pub State : Type 0
-State = Records × ℕ
+State = Written × ℕ
 
-abbrev pub at : Reading → List ℕ → State
-at r l = ((l, r.written), r.offset)
+abbrev pub at : Reader → State
+at r = ((r.nodes, r.written), r.offset)
 
 abbrev pub pushed : State → ℕ → Kind → State
 pushed r o k = (add r.0 o k, r.1)
 
--- one byte more is read
-abbrev pub skipped : State → State
-skipped r = (r.0, r.1 + 1)
+-- some bytes more are read
+abbrev pub moved : State → ℕ → State
+moved r n = (r.0, r.1 + n)
 
 -- the bytes that a level reads at least: one, where there is one and the level begins with an operand
 abbrev pub least : Call → List ℕ → ℕ

@@ -1,13 +1,12 @@
 -- The values of the rule reader's answers, by documents 01, 02 e) and 02 f). Assumes nothing.
-use Rattle.std.specs.Prelude.{ℕ, ◌-◌, List, ◌++◌, Bool, ◌||◌, eqb, replicate}
+use Rattle.std.specs.Prelude.{ℕ, ◌-◌, List, ◌++◌, Bool, ◌||◌, eqb, replicate, Result, Ok, Err}
 use Rattle.event.specs.Event.{is_event}
 use Rattle.expression.specs.Tree.{Tree, size, specials, records}
 use Rattle.expression.specs.declared.Kind.TheVariants.{Empty}
 use Rattle.expression.specs.declared.Node.{Node}
+use Rattle.expression.specs.declared.records.Records.{Records}
 use Rattle.verdict.specs.Verdicts as verdict
 use Rattle.verdict.specs.declared.Verdict.{Verdict}
-use Rattle.rule.specs.declared.Outcome.{Outcome}
-use Rattle.rule.specs.declared.Outcome.TheVariants as outcome
 use Rattle.rule.specs.declared.Refusal.{Refusal}
 use Rattle.rule.specs.declared.Refusal.TheVariants as why
 
@@ -59,25 +58,12 @@ refusal_verdict (why.DoubleStar n) = verdict.refused 21 n
 refusal_verdict why.ManyNodes = verdict.refused 5 0
 refusal_verdict why.ManySpecials = verdict.refused 6 0
 
--- number, place, found and count of what the code answers
-abbrev pub outcome_verdict : Outcome → Verdict
-outcome_verdict (outcome.Accepted m k) = verdict.accepted 0 0
-outcome_verdict (outcome.Refused r) = refusal_verdict r
-
 -- a verdict, with m, k and the records
 abbrev pub told : Verdict → ℕ → ℕ → List Node → RuleAnswer
 told v m k ns =
     record { number = v.number; place = v.place; found = v.found; count = v.count; m = m; k = k; nodes = ns }
 
--- m and k of what the code answers
-abbrev pub node_count : Outcome → ℕ
-node_count (outcome.Accepted m k) = m
-node_count (outcome.Refused r) = 0
-
-abbrev pub special_count : Outcome → ℕ
-special_count (outcome.Accepted m k) = k
-special_count (outcome.Refused r) = 0
-
--- the values of what the code answers: its outcome and its 64 records
-abbrev pub rule_values : Outcome → List Node → RuleAnswer
-rule_values o ns = told (outcome_verdict o) (node_count o) (special_count o) ns
+-- the values of what the code answers: a refusal has no m, no k and no records
+abbrev pub rule_values : Result Records Refusal → RuleAnswer
+rule_values (Ok r) = told (verdict.accepted 0 0) r.m r.k r.nodes
+rule_values (Err r) = told (refusal_verdict r) 0 0 (unused 64)

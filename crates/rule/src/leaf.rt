@@ -5,34 +5,25 @@ ghost use Rattle.event.specs.Leading.{leading};
 ghost use Rattle.event.specs.LetterSets.{letters_of};
 ghost use Rattle.expression.specs.Leaves.{leaf, bracketed, leaf_at};
 
+use event::is_event;
 use event::sets::LetterSet;
-use event::{is_event, sets};
 use expression::{Kind, Leaf};
 
 // How many letters stand at the front.
+#[tactic(auto, unfolding(event::specs::Leading::leading))]
 fn count_letters(s: &[u8]) -> usize
     ensures { result ≡ leading is_event s.now }
 {
-    let mut i = 0;
-    while i < s.len() {
-        if is_event(s[i]) {
-            i += 1;
-        } else {
-            return i;
-        }
-    }
-    i
+    s.iter().take_while(|b| is_event(**b)).count()
 }
 
 // The set of a text's letters.
 fn gather(s: &[u8]) -> LetterSet
     ensures { result ≡ letters_of s.now }
 {
-    let mut set = sets::none();
-    let mut i = 0;
-    while i < s.len() {
-        set = sets::plus(set, s[i]);
-        i += 1;
+    let mut set = LetterSet::none();
+    for b in s {
+        set = set.plus(*b);
     }
     set
 }
@@ -51,17 +42,17 @@ fn read_set(s: &[u8]) -> Leaf
 }
 
 // The leaf at the front of a text.
+#[tactic(auto, unfolding(expression::specs::Leaves::leaf_at))]
 pub fn read_leaf(s: &[u8]) -> Leaf
     requires { (1 ≤ length s.now) × (length s.now ≤ 255) }
     ensures { result ≡ leaf_at s.now }
 {
-    let b = s[0];
-    match b {
+    match s[0] {
         b'0' => leaf(1, Kind::Empty),
         b'1' => leaf(1, Kind::Epsilon),
-        b'.' => leaf(1, Kind::Letter(sets::every())),
+        b'.' => leaf(1, Kind::Letter(LetterSet::every())),
         b'[' => read_set(s),
-        _ => leaf(1, Kind::Letter(sets::single(b))),
+        b => leaf(1, Kind::Letter(LetterSet::single(b))),
     }
 }
 
@@ -69,8 +60,5 @@ pub fn read_leaf(s: &[u8]) -> Leaf
 fn leaf(width: usize, kind: Kind) -> Leaf
     ensures { result ≡ leaf width kind }
 {
-    Leaf {
-        width: width,
-        kind: kind,
-    }
+    Leaf { width, kind }
 }

@@ -5,17 +5,18 @@ pub mod bytes;
 mod leaf;
 pub mod levels;
 pub mod order;
-mod records;
 pub mod scan;
 pub mod stars;
 
-ghost use Rattle.std.specs.Prelude.{◌≡◌};
-ghost use Rattle.rule.specs.declared.Outcome.TheVariants.{Accepted, Refused};
-ghost use Rattle.rule.specs.RuleAnswer.{rule_values, refusal_verdict, outcome_verdict, node_count, special_count, unused};
-ghost use Rattle.rule.specs.RuleComputed.{ordered, sentence_outcome, size_outcome, stored_outcome, rule_answer};
+ghost use Rattle.std.specs.Prelude.{◌≡◌, ◌≤◌, length, MatchResult, Ok, Err};
+ghost use Rattle.expression.specs.Scan.{scanned};
+ghost use Rattle.rule.specs.declared.Refusal.TheVariants.{NoSentence};
+ghost use Rattle.rule.specs.RuleAnswer.{rule_values, refusal_verdict};
+ghost use Rattle.rule.specs.RuleComputed.{sentence_outcome, size_outcome, rule_outcome, stored_outcome, rule_answer};
 ghost use Rattle.rule.specs.RuleMeaning.{RuleMeaning};
 
-use expression::{Kind, Node, ScanResult};
+use expression::Size;
+use expression::records::Records;
 use verdict::Verdict;
 
 // The most that a rule may have.
@@ -26,7 +27,7 @@ const MOST_NODES: usize = 64;
 const MOST_SPECIALS: usize = 7;
 
 // Why a text is refused, with the place where the refusal names one.
-#[derive(Clone, Copy)]
+#[derive(Clone, Copy, PartialEq, Eq)]
 pub enum Refusal {
     EmptyText,
     LongText,
@@ -38,160 +39,92 @@ pub enum Refusal {
     ManySpecials,
 }
 
-// What a text is: accepted with m and k, or refused.
-#[derive(Clone, Copy)]
-pub enum Outcome {
-    Accepted(usize, usize),
-    Refused(Refusal),
-}
+// Number and place of each refusal.
+impl From<Refusal> for Verdict {
+    ghost from_gives = { λ refusal verdict. verdict ≡ refusal_verdict refusal };
 
-// The reader's answer: on acceptance the first m records are the nodes', all others are `0` at offset 0.
-#[derive(Clone, Copy)]
-pub struct Answer {
-    pub outcome: Outcome,
-    pub nodes: [Node; 64],
-}
-
-// Reads a rule text.
-pub fn read(text: &[u8]) -> Answer
-    ensures value { rule_values result.outcome result.nodes ≡ rule_answer text.now }
-    ensures meaning { RuleMeaning text.now (rule_values result.outcome result.nodes) }
-{
-    match check_sentence(text) {
-        Outcome::Refused(refusal) => refused(refusal),
-        Outcome::Accepted(m, k) => read_sentence(text, m, k),
+    fn from(refusal: Refusal) -> Verdict {
+        match refusal {
+            Refusal::EmptyText => Verdict::refusal(1, 0),
+            Refusal::LongText => Verdict::refusal(2, 0),
+            Refusal::ForeignByte(place) => Verdict::refusal(3, place as u64),
+            Refusal::NoSentence(place) => Verdict::refusal(4, place as u64),
+            Refusal::UnorderedSet(place) => Verdict::refusal(20, place as u64),
+            Refusal::DoubleStar(place) => Verdict::refusal(21, place as u64),
+            Refusal::ManyNodes => Verdict::refusal(5, 0),
+            Refusal::ManySpecials => Verdict::refusal(6, 0),
+        }
     }
+}
+
+// Reads a rule text: m, k and the nodes' records, or why it is refused.
+pub fn read(text: &[u8]) -> Result<Records, Refusal>
+    ensures value { rule_values result ≡ rule_answer text.now }
+    ensures meaning { RuleMeaning text.now (rule_values result) }
+{
+    let Size { m, k } = check_rule(text)?;
+    Ok(Records {
+        m,
+        k,
+        nodes: levels::read_text(text),
+    })
+}
+
+// Whether a text is a rule, and how many nodes and special nodes it has.
+fn check_rule(text: &[u8]) -> Result<Size, Refusal>
+    ensures { result ≡ rule_outcome text.now }
+{
+    let size = check_sentence(text)?;
+    if let Some(place) = stars::find_double(text) {
+        return Err(Refusal::DoubleStar(place));
+    }
+    check_size(size)
 }
 
 // Whether a text of the store is a rule: as the reader, but that a star may stand directly after a star.
-pub fn check_stored(text: &[u8]) -> Outcome
+pub fn check_stored(text: &[u8]) -> Result<Size, Refusal>
     ensures { result ≡ stored_outcome text.now }
 {
-    match check_sentence(text) {
-        Outcome::Refused(refusal) => Outcome::Refused(refusal),
-        Outcome::Accepted(m, k) => check_size(m, k),
-    }
+    check_size(check_sentence(text)?)
 }
 
 // Whether a text is a sentence whose sets are in order, and how many nodes and special nodes it has.
-fn check_sentence(text: &[u8]) -> Outcome
+fn check_sentence(text: &[u8]) -> Result<Size, Refusal>
     ensures { result ≡ sentence_outcome text.now }
 {
-    if text.len() == 0 {
-        return Outcome::Refused(Refusal::EmptyText);
+    if text.is_empty() {
+        return Err(Refusal::EmptyText);
     }
     if MOST_BYTES < text.len() {
-        return Outcome::Refused(Refusal::LongText);
+        return Err(Refusal::LongText);
     }
-    let foreign = bytes::find_foreign(text);
-    if foreign < text.len() {
-        return Outcome::Refused(Refusal::ForeignByte(foreign));
+    if let Some(place) = bytes::find_foreign(text) {
+        return Err(Refusal::ForeignByte(place));
     }
-    match scan::scan(text) {
-        ScanResult::Broken(place) => Outcome::Refused(Refusal::NoSentence(place)),
-        ScanResult::Complete(m, k) => check_order(text, m, k),
+    let size = scan_sentence(text)?;
+    if let Some(place) = order::find_unordered(text) {
+        return Err(Refusal::UnorderedSet(place));
     }
+    Ok(size)
 }
 
-// A sentence of m nodes, k of them special: whether its sets are in order.
-fn check_order(text: &[u8], m: usize, k: usize) -> Outcome
-    ensures { result ≡ ordered text.now m k }
+// Whether a text is a sentence, and how many nodes and special nodes it has.
+fn scan_sentence(text: &[u8]) -> Result<Size, Refusal>
+    requires { length text.now ≤ 255 }
+    ensures { MatchResult (scanned text.now) (λ z. result ≡ Ok z) (λ n. result ≡ Err (NoSentence n)) }
 {
-    let unordered = order::find_unordered(text);
-    if unordered < text.len() {
-        return Outcome::Refused(Refusal::UnorderedSet(unordered));
-    }
-    Outcome::Accepted(m, k)
+    scan::scan(text).map_err(|place| Refusal::NoSentence(place))
 }
 
-// Whether a rule may have m nodes, k of them special.
-fn check_size(m: usize, k: usize) -> Outcome
-    ensures { result ≡ size_outcome m k }
+// Whether a rule may have so many nodes and special nodes.
+fn check_size(size: Size) -> Result<Size, Refusal>
+    ensures { result ≡ size_outcome size.m size.k }
 {
-    if MOST_NODES < m {
-        return Outcome::Refused(Refusal::ManyNodes);
+    if MOST_NODES < size.m {
+        return Err(Refusal::ManyNodes);
     }
-    if MOST_SPECIALS < k {
-        return Outcome::Refused(Refusal::ManySpecials);
+    if MOST_SPECIALS < size.k {
+        return Err(Refusal::ManySpecials);
     }
-    Outcome::Accepted(m, k)
-}
-
-// A sentence of m nodes, k of them special, whose sets are in order: refused where a star stands directly after a star or there are too
-// many nodes, else read.
-fn read_sentence(text: &[u8], m: usize, k: usize) -> Answer
-    requires { sentence_outcome text.now ≡ Accepted m k }
-    ensures { rule_values result.outcome result.nodes ≡ rule_answer text.now }
-{
-    let double = stars::find_double(text);
-    if double < text.len() {
-        return refused(Refusal::DoubleStar(double));
-    }
-    match check_size(m, k) {
-        Outcome::Refused(excess) => refused(excess),
-        Outcome::Accepted(m, k) => Answer {
-            outcome: Outcome::Accepted(m, k),
-            nodes: levels::read_text(text),
-        },
-    }
-}
-
-// The answer to a refused text, in which no record is a node's.
-fn refused(refusal: Refusal) -> Answer
-    ensures { rule_values result.outcome result.nodes ≡ rule_values (Refused refusal) (unused 64) }
-{
-    let none = Node {
-        offset: 0,
-        kind: Kind::Empty,
-    };
-    Answer {
-        outcome: Outcome::Refused(refusal),
-        nodes: [none; 64],
-    }
-}
-
-// Number and place of each refusal.
-pub fn refusal_verdict(refusal: Refusal) -> Verdict
-    ensures { result ≡ refusal_verdict refusal }
-{
-    match refusal {
-        Refusal::EmptyText => verdict::refusal(1, 0),
-        Refusal::LongText => verdict::refusal(2, 0),
-        Refusal::ForeignByte(place) => verdict::refusal(3, place as u64),
-        Refusal::NoSentence(place) => verdict::refusal(4, place as u64),
-        Refusal::UnorderedSet(place) => verdict::refusal(20, place as u64),
-        Refusal::DoubleStar(place) => verdict::refusal(21, place as u64),
-        Refusal::ManyNodes => verdict::refusal(5, 0),
-        Refusal::ManySpecials => verdict::refusal(6, 0),
-    }
-}
-
-// Number, place, found and count of an answer.
-pub fn outcome_verdict(outcome: Outcome) -> Verdict
-    ensures { result ≡ outcome_verdict outcome }
-{
-    match outcome {
-        Outcome::Accepted(m, k) => verdict::acceptance(0, 0),
-        Outcome::Refused(refusal) => refusal_verdict(refusal),
-    }
-}
-
-// m, the number of nodes; 0 on a refusal.
-pub fn node_count(outcome: Outcome) -> usize
-    ensures { result ≡ node_count outcome }
-{
-    match outcome {
-        Outcome::Accepted(m, k) => m,
-        Outcome::Refused(refusal) => 0,
-    }
-}
-
-// k, the number of special nodes; 0 on a refusal.
-pub fn special_count(outcome: Outcome) -> usize
-    ensures { result ≡ special_count outcome }
-{
-    match outcome {
-        Outcome::Accepted(m, k) => k,
-        Outcome::Refused(refusal) => 0,
-    }
+    Ok(size)
 }

@@ -1,50 +1,42 @@
 // The order of the letters inside brackets.
 ghost use Rattle.std.specs.Prelude.{◌≡◌};
+ghost use Rattle.event.specs.Leading.{place_in};
 ghost use Rattle.expression.specs.OrderComputed.{noted, falls, unordered_at};
 
 use event::is_event;
-
-// What is noted of the bytes that have passed, where it is no letter.
-const OUTSIDE: u8 = 0;
-
-const OPENED: u8 = 1;
+use expression::Noted;
 
 // Whether a byte is a letter inside brackets that is not above the one before it.
-fn falls(last: u8, b: u8) -> bool
-    ensures { result ≡ falls last b }
+fn falls(before: Noted, b: u8) -> bool
+    ensures { result ≡ falls before b }
 {
-    if last == OUTSIDE {
-        return false;
+    match before {
+        Noted::Last(letter) => b <= letter && is_event(b),
+        Noted::Outside | Noted::Opened => false,
     }
-    b <= last && is_event(b)
 }
 
 // What is noted with one byte more.
-fn note(last: u8, b: u8) -> u8
-    ensures { result ≡ noted last b }
+fn note(before: Noted, b: u8) -> Noted
+    ensures { result ≡ noted before b }
 {
-    if b == b'[' {
-        return OPENED;
+    match b {
+        b'[' => Noted::Opened,
+        _ if before != Noted::Outside && is_event(b) => Noted::Last(b),
+        _ => Noted::Outside,
     }
-    if last == OUTSIDE {
-        return OUTSIDE;
-    }
-    if is_event(b) { b } else { OUTSIDE }
 }
 
-// The offset of the first letter inside brackets that is not above the one before it, or the length where there is none.
-pub fn find_unordered(text: &[u8]) -> usize
-    ensures { result ≡ unordered_at text.now }
+// The offset of the first letter inside brackets that is not above the one before it, if there is one.
+pub fn find_unordered(text: &[u8]) -> Option<usize>
+    ensures { result ≡ place_in text.now (unordered_at text.now) }
 {
-    let mut last = OUTSIDE;
-    let mut i = 0;
-    while i < text.len() {
-        let b = text[i];
-        if falls(last, b) {
-            return i;
+    let mut before = Noted::Outside;
+    for (i, b) in text.iter().enumerate() {
+        if falls(before, *b) {
+            return Some(i);
         }
-        last = note(last, b);
-        i += 1;
+        before = note(before, *b);
     }
-    i
+    None
 }

@@ -1,29 +1,25 @@
 // Stars directly after a star.
 ghost use Rattle.std.specs.Prelude.{◌≡◌};
+ghost use Rattle.event.specs.Leading.{place_in};
 ghost use Rattle.expression.specs.StarsComputed.{doubles, double_at};
-
-const STAR: u8 = b'*';
 
 // Whether a byte is a star, and so is the byte before it.
 pub fn is_double(before: u8, b: u8) -> bool
     ensures { result ≡ doubles before b }
 {
-    before == STAR && b == STAR
+    before == b'*' && b == b'*'
 }
 
-// The offset of the first star directly after a star, or the length where there is none.
-pub fn find_double(text: &[u8]) -> usize
-    ensures { result ≡ double_at text.now }
+// The offset of the first star directly after a star, if there is one.
+pub fn find_double(text: &[u8]) -> Option<usize>
+    ensures { result ≡ place_in text.now (double_at text.now) }
 {
-    let mut before: u8 = 0;
-    let mut i = 0;
-    while i < text.len() {
-        let b = text[i];
-        if is_double(before, b) {
-            return i;
+    let mut before = 0;
+    for (i, b) in text.iter().enumerate() {
+        if is_double(before, *b) {
+            return Some(i);
         }
-        before = b;
-        i += 1;
+        before = *b;
     }
-    i
+    None
 }

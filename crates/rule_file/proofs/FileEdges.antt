@@ -19,7 +19,7 @@ use Rattle.expression.specs.StarsComputed.{double_from}
 use Rattle.expression.specs.declared.Node.{Node}
 use Rattle.replacement.specs.Replaced.{is_lower}
 use Rattle.replacement.specs.Pieces.{name_length, pieces_from, shape_of, filled}
-use Rattle.rule_line.specs.declared.LineNodes.{LineNodes}
+use Rattle.rule_line.specs.Lines.{LineNodes}
 use Rattle.rule_line.specs.LineComputed.{has, text_of, knows, is_line, judged}
 use Rattle.rule_file.specs.FileComputed.{file_from, file_answer}
 

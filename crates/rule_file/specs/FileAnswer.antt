@@ -1,12 +1,11 @@
 -- The values of the answers of the reader of rule files, by documents 01 and 02. Assumes nothing.
-use Rattle.std.specs.Prelude.{ℕ, ◌-◌, List, ◌++◌, map, length}
+use Rattle.std.specs.Prelude.{ℕ, ◌-◌, Result, Ok, Err, List, ◌++◌, map, length}
 use Rattle.verdict.specs.Verdicts as verdict
 use Rattle.verdict.specs.declared.Verdict.{Verdict}
-use Rattle.rule_line.specs.declared.LineNodes.{LineNodes}
 use Rattle.rule_line.specs.declared.Refusal.{Refusal}
-use Rattle.rule_line.specs.Lines.{Line, line_nodes, unused_lines, refusal_number}
-use Rattle.rule_file.specs.declared.Outcome.{Outcome}
-use Rattle.rule_file.specs.declared.Outcome.TheVariants as outcome
+use Rattle.rule_line.specs.Lines.{Line, LineNodes, line_nodes, told_line, unused_lines, refusal_number}
+use Rattle.rule_file.specs.declared.LineRefusal.{LineRefusal}
+use Rattle.rule_file.specs.declared.accepted.RuleFile.{RuleFile}
 
 -- 01: "An answer carries number (0 if accepted), place, found and count"; 02 b): "Its reader answers each line's m, k and records in line
 -- order". With them the number r of lines. The code's answer has 16 lines, of 64 records each.
@@ -34,19 +33,24 @@ abbrev pub refusal_verdict : Refusal → ℕ → Verdict
 refusal_verdict r line = verdict.refused (refusal_number r) line
 
 -- number, place, found and count of what the code answers
-abbrev pub outcome_verdict : Outcome → Verdict
-outcome_verdict (outcome.Accepted r) = verdict.accepted 0 0
-outcome_verdict (outcome.Refused r line) = refusal_verdict r line
+abbrev pub outcome_verdict : Result RuleFile LineRefusal → Verdict
+outcome_verdict (Ok file) = verdict.accepted 0 0
+outcome_verdict (Err r) = refusal_verdict r.refusal r.line
 
 -- the number of lines
-abbrev pub line_count : Outcome → ℕ
-line_count (outcome.Accepted r) = r
-line_count (outcome.Refused r line) = 0
+abbrev pub line_count : Result RuleFile LineRefusal → ℕ
+line_count (Ok file) = file.count
+line_count (Err r) = 0
+
+-- the lines: those of the file, and behind them those that it does not have
+abbrev pub lines_answered : Result RuleFile LineRefusal → List LineNodes
+lines_answered (Ok file) = map told_line file.lines
+lines_answered (Err r) = unused_lines 16
 
 -- a verdict, with the number of lines and the lines
 abbrev pub told : Verdict → ℕ → List LineNodes → FileAnswer
 told v r ls = record { number = v.number; place = v.place; found = v.found; count = v.count; r = r; lines = ls }
 
--- the values of what the code answers: its outcome and its 16 lines
-abbrev pub file_values : Outcome → List LineNodes → FileAnswer
-file_values o ls = told (outcome_verdict o) (line_count o) ls
+-- the values of what the code answers
+abbrev pub file_values : Result RuleFile LineRefusal → FileAnswer
+file_values o = told (outcome_verdict o) (line_count o) (lines_answered o)

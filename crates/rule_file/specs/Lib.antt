@@ -4,4 +4,5 @@ pub mod FileMeaning
 -- The same by computation.
 pub mod FileComputed
 -- What the private functions do.
+pub mod Kept
 pub mod Turns

@@ -7,11 +7,10 @@ use lib.ListN.{length}
 use Rattle.event.proofs.Tests.{T_of}
 use Rattle.expression.specs.Tree.{size, specials, records}
 use Rattle.expression.specs.Grammar.{Alt, Reads}
-use Rattle.expression.specs.Scan.{scanned, is_sentence}
+use Rattle.expression.specs.Scan.{scanned, is_sentence, counted}
 use Rattle.expression.specs.TreeOf.{tree_of}
-use Rattle.expression.specs.declared.ScanResult.TheVariants.{Complete}
 use Rattle.expression.proofs.OneReading.{tree_is, sentence_reads}
-use Rattle.expression.proofs.ScanAccepts.{sentence_found}
+use Rattle.expression.proofs.ScanAccepts.{same_counts, sentence_found}
 use Rattle.replacement.specs.Pieces.{pieces, shape}
 use Rattle.replacement.specs.Graft.{graft_nodes, place, total, operand_at, grafted, more_nodes, more_specials}
 use Rattle.replacement.proofs.ShapeLaws.{counts_add}
@@ -44,13 +43,12 @@ module _ (ls : List Line) (s : List ℕ) (d : Sound ls) (y : is_sentence (shape 
       (λ (o : ℕ). operand_at (text_of ls) (tree_named ls) (place (text_of ls) (tree_named ls) (pieces s) o) (pieces s) o) (tree_of (shape s))
 
   -- its nodes and special nodes
-  pub nodes_by_shape : {m c : ℕ} → scanned (shape s) ≡ Complete m c
+  pub nodes_by_shape : {m c : ℕ} → scanned (shape s) ≡ counted m c
       → (size (tree_of (replaced_by ls s)) ≡ m + more_nodes (tree_named ls) (pieces s))
       × (specials (tree_of (replaced_by ls s)) ≡ c + more_specials (tree_named ls) (pieces s))
   nodes_by_shape {m} {c} e =
       let r : Reads Alt 0 (replaced_by ls s) (tree_of (replaced_by ls s)) = subst (Reads Alt 0 (replaced_by ls s)) (sym tree_by_shape) by_shape in
-      let z = sym (sentence_found r) ∙ counts_add (text_of ls) (tree_named ls) (pieces s) (known_reads d (pieces s) k) e in
-      (cc, cc)
+      same_counts (sym (sentence_found r) ∙ counts_add (text_of ls) (tree_named ls) (pieces s) (known_reads d (pieces s) k) e)
 
   -- its length
   pub length_by_shape : length (replaced_by ls s) ≡ total (text_of ls) (tree_named ls) (pieces s)

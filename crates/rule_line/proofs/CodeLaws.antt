@@ -1,35 +1,35 @@
--- What the proofs of the functions cite. Assumes nothing.
-use Prim.Native.Nat.{ℕ, zero, suc, ◌+◌, ◌-◌, ◌*◌, ◌≤◌, ◌<◌}
+-- What the proofs of the functions that read names, lines and shapes cite. Assumes nothing.
+use Prim.Native.Nat.{ℕ, zero, suc, ◌+◌, ◌≤◌, ◌<◌}
 use native.Mathlib.Omega.{arith}
-use mathlib.Core.Path.{◌≡◌, refl, sym, ap, ap₂, subst, ◌∙◌}
-use mathlib.Core.Bool.{Bool, true, false, cond, ◌&&◌, and-false}
-use mathlib.Core.List.{List, [], ◌∷◌, ◌++◌, map, append_assoc, append-nil}
-use lib.Dec.{ltb}
-use lib.ListN.{length, get_or, take, drop, set, length-set, length-take, length-drop, length-append, drop_of_length-le}
-use lib.Seq.{drop-drop, length-take-le, take-suc-set}
-use borrow.Author.Tests.{eq-eqb, ne_eqb, lt-ltb, le-ltb}
 use native.Mathlib.Numerals.{add-one}
+use mathlib.Core.Path.{◌≡◌, refl, sym, ap, ap₂, subst, ◌∙◌}
+use mathlib.Core.Bool.{Bool, true, false, ◌&&◌, and-false}
+use mathlib.Core.List.{List, [], ◌∷◌, ◌++◌, map, append_assoc, append-nil}
+use lib.Dec.{eqb, ltb}
+use lib.ListN.{length, get_or, take, drop, set, length-set, length-take, length-drop, length-append}
+use lib.Seq.{length-take-le, take-suc-set}
+use lib.Pointwise.{pointwise}
+use borrow.Author.Tests.{eqb-true, eq-eqb, ne_eqb, lt-ltb, le-ltb}
 use Rattle.event.specs.Leading.{leading}
 use Rattle.event.specs.Text.{not_newline}
-use Rattle.event.proofs.Tests.{choose}
 use Rattle.event.proofs.Tails.{tail, tail_is, tail_length}
 use Rattle.event.proofs.LeadingLaws.{leading_found}
 use Rattle.replacement.specs.Pieces.{Piece, own, named, name_length, pieces_from, pieces, shape_of}
 use Rattle.replacement.proofs.PieceLaws.{of_byte, at_open, skipped}
-use Rattle.replacement.proofs.NameLaws.{name_found}
-use Rattle.rule_line.specs.LineComputed.{same_text, name_of, body_of, rule_of, is_line}
-use Rattle.rule_line.specs.Coding.{line_read, name_at, find_from, code_of, origin_of, Taken, Cut}
-use Rattle.rule_line.specs.declared.line.LineRead.TheVariants.{Formed, Malformed}
+use Rattle.replacement.proofs.NameLaws.{name_found, both}
+use Rattle.rule_line.specs.LineComputed.{name_of, body_of, rule_of, is_line}
+use Rattle.rule_line.specs.Coding.{FieldsOf, code_of, origin_of, Taken, Cut, pushed}
+use Rattle.rule_line.specs.declared.PassedLine.{PassedLine}
+use Rattle.rule_line.specs.declared.line.LineFields.{LineFields}
+use Rattle.rule_line.specs.declared.shape.Origin.{Origin}
+use Rattle.rule_line.specs.declared.shape.Origin.TheVariants.{Own}
 use Rattle.rule_line.specs.declared.shape.PieceRead.{PieceRead}
+use Rattle.rule_line.specs.declared.shape.Shape.{Shape}
+use Rattle.rule_line.proofs.LineNames.{unlike}
 
 -- ---- one line
-pub two_long : (s : List ℕ) → get_or s 1 0 ≡ 9 → 2 ≤ length s
-two_long [] e = absurd (omega arith)
-two_long (b ∷ []) e = absurd (omega arith)
-two_long (b ∷ c ∷ s) e = omega arith
-
-pub name_fits : (c : ℕ) → 0 < c → (x : List ℕ) (k : ℕ) → k ≡ name_length c x → (k ≡ 0 → ⊥) → (k < length x) × (k ≤ 12)
-name_fits c p x zero e h = absurd (h refl)
+pub name_fits : (c : ℕ) → 0 < c → (x : List ℕ) (k : ℕ) → k ≡ name_length c x → 0 < k → (k < length x) × (k ≤ 12)
+name_fits c p x zero e h = absurd (omega arith)
 name_fits c p x (suc k) e h =
     let f = name_found c p x k (sym e) in
     let l : suc k ≤ length x = short in
@@ -43,144 +43,134 @@ name_fits c p x (suc k) e h =
         let w = ap length f.whole ∙ length-append (take (suc k) x) (c ∷ drop (suc (suc k)) x) in
         omega (arith, length-take (suc k) x, length-drop (suc (suc k)) x)
 
-module _ (s : List ℕ) where
-  refuse : is_line s ≡ false → Malformed ≡ line_read s
-  refuse e = sym (rw e)
+-- `R` and a tab stand at the front, or not
+tag_of : (s : List ℕ) → pointwise eqb (take 2 s) (82 ∷ 9 ∷ []) ≡ true → (get_or s 0 0 ≡ 82) × (get_or s 1 0 ≡ 9)
+tag_of [] e = absurd (unlike e refl)
+tag_of (b ∷ []) e = absurd (unlike (both (eqb b 82) false e).1 refl)
+tag_of (b ∷ c ∷ s) e =
+    let f = both (eqb b 82) (eqb c 9 && true) e in
+    (eqb-true b 82 f.0, eqb-true c 9 (both (eqb c 9) true f.1).0)
 
-  pub no_tag : (get_or s 0 0 ≡ 82 → ⊥) → Malformed ≡ line_read s
+pub no_tag : (s : List ℕ) → pointwise eqb (take 2 s) (82 ∷ 9 ∷ []) ≡ false → is_line s ≡ false
+unfolding is_line
+no_tag [] e = refl
+no_tag (b ∷ []) e = and-false (eqb b 82)
+no_tag (b ∷ c ∷ s) e = go (eqb b 82) (eqb c 9) e _
+  where
+    go : (p q : Bool) → (p && (q && true)) ≡ false → (r : Bool) → (p && (q && r)) ≡ false
+    go false q e r = refl
+    go true false e r = refl
+    go true true e r = absurd (unlike refl e)
+
+-- what follows them
+module _ (s : List ℕ) {x : List ℕ} (p : pointwise eqb (take 2 s) (82 ∷ 9 ∷ []) ≡ true) (d : x ≡ drop 2 s) where
+  name_is : (n : ℕ) → n ≡ name_length 9 x → name_of s ≡ n
+  name_is n e = sym (e ∙ ap (name_length 9) d)
+
+  pub no_name : name_length 9 x ≡ 0 → is_line s ≡ false
   unfolding is_line
-  no_tag h = refuse (rw (ne_eqb (get_or s 0 0) 82 h))
+  no_name h = simp (name_is 0 (sym h), and-false)
 
-  pub no_tab : (get_or s 1 0 ≡ 9 → ⊥) → Malformed ≡ line_read s
-  unfolding is_line
-  no_tab h = refuse (simp (ne_eqb (get_or s 1 0) 9 h, and-false))
+  -- the name, of length n, and what follows the second tab
+  module _ (n : ℕ) (h : n ≡ name_length 9 x) (some : 0 < n) where
+    pub past_name : n + 1 ≤ length x
+    past_name = omega (arith, (name_fits 9 (omega arith) x n h some).0)
 
-  name_is : (n : ℕ) → n ≡ name_length 9 (tail 2 s) → name_of s ≡ n
-  name_is n e = sym (e ∙ ap (name_length 9) (tail_is 2 s))
+    body_is : body_of s ≡ tail (n + 1) x
+    body_is =
+        ap₂ (λ (k : ℕ) (y : List ℕ). drop (suc k) y) (name_is n h) (sym d) ∙ ap (λ (k : ℕ). drop k x) (sym (add-one n)) ∙ sym (tail_is (n + 1) x)
 
-  pub no_name : (n : ℕ) → n ≡ name_length 9 (tail 2 s) → n ≡ 0 → Malformed ≡ line_read s
-  unfolding is_line
-  no_name n e h = refuse (simp (name_is n e ∙ h, and-false))
+    module _ (e : ℕ) (g : e ≡ leading not_newline (tail (n + 1) x)) where
+      pub end_within : e ≤ length (tail (n + 1) x)
+      end_within = omega (arith, (leading_found not_newline (tail (n + 1) x)).within)
 
-  body_is : (n : ℕ) → n ≡ name_length 9 (tail 2 s) → body_of s ≡ tail (n + 3) s
-  body_is n e =
-      let z : 2 + suc n ≡ n + 3 = omega arith in
-      ap (λ (k : ℕ). drop (suc k) (drop 2 s)) (name_is n e) ∙ drop-drop (suc n) 2 s ∙ ap (λ (k : ℕ). drop k s) z ∙ sym (tail_is (n + 3) s)
+      rule_is : rule_of s ≡ e
+      rule_is = ap (leading not_newline) body_is ∙ sym g
 
-  body_long : (n : ℕ) → n ≡ name_length 9 (tail 2 s) → length (body_of s) ≡ length s - (n + 3)
-  body_long n e = ap length (body_is n e ∙ tail_is (n + 3) s) ∙ length-drop (n + 3) s
+      pub no_end : e ≡ length (tail (n + 1) x) → is_line s ≡ false
+      unfolding is_line
+      no_end l = simp (ap₂ ltb rule_is (ap length body_is), le-ltb e (length (tail (n + 1) x)) (omega arith), and-false)
 
-  module _ (n e : ℕ) (h : n ≡ name_length 9 (tail 2 s)) (g : e ≡ leading not_newline (tail (n + 3) s)) where
-    rule_is : rule_of s ≡ e
-    rule_is = ap (leading not_newline) (body_is n h) ∙ sym g
-
-    pub formed : get_or s 0 0 ≡ 82 → get_or s 1 0 ≡ 9 → (n ≡ 0 → ⊥) → n + 3 + e < length s → Formed n e ≡ line_read s
-    unfolding is_line
-    formed p q r l =
-        let z : e < length (body_of s) = omega (arith, body_long n h) in
-        let w : is_line s ≡ true = simp (eq-eqb (get_or s 0 0) 82 p, eq-eqb (get_or s 1 0) 9 q)
-        (ap₂ (λ (i j : ℕ). ltb 0 i && ltb j (length (body_of s))) (name_is n h) rule_is
-        ∙ rw (lt-ltb 0 n (omega arith), lt-ltb e (length (body_of s)) z)) in
-        sym (ap (λ (t : Bool). cond t (Formed (name_of s) (rule_of s)) Malformed) w ∙ ap₂ Formed (name_is n h) rule_is)
-
-    pub no_end : length s ≤ n + 3 + e → Malformed ≡ line_read s
-    unfolding is_line
-    no_end l =
-        let z : length (body_of s) ≤ rule_of s = omega (arith, body_long n h, rule_is) in
-        refuse (simp (le-ltb (rule_of s) (length (body_of s)) z, and-false))
-
-  pub end_within : (k e : ℕ) → e ≡ leading not_newline (tail k s) → e ≤ length s - k
-  end_within k e g =
-      let w = (leading_found not_newline (tail k s)).within in
-      omega (arith, ap length (tail_is k s), length-drop k s)
-
--- ---- a line by its name
-module _ (f : ℕ → List ℕ) (n : List ℕ) where
-  find_step : (r i : ℕ) → i < r → find_from f n (r - i) i ≡ cond (same_text (f i) n) i (find_from f n (r - (i + 1)) (i + 1))
-  unfolding find_from
-  find_step r i h = let e : r - i ≡ suc (r - (i + 1)) = omega arith in ap (λ (k : ℕ). find_from f n k i) e
-
-  pub find_here : (r i : ℕ) → i < r → same_text (f i) n ≡ true → find_from f n (r - i) i ≡ i
-  find_here r i h e = find_step r i h ∙ rw e
-
-  pub find_on : (r i : ℕ) → i < r → same_text (f i) n ≡ false → find_from f n (r - i) i ≡ find_from f n (r - (i + 1)) (i + 1)
-  find_on r i h e = find_step r i h ∙ rw e
-
-  pub find_end : (r i : ℕ) → r ≤ i → find_from f n (r - i) i ≡ i
-  unfolding find_from
-  find_end r i h = let e : r - i ≡ 0 = omega arith in ap (λ (k : ℕ). find_from f n k i) e
-
-  pub find_start : (r : ℕ) → find_from f n r 0 ≡ find_from f n (r - 0) 0
-  find_start r = let e : r ≡ r - 0 = omega arith in ap (λ (k : ℕ). find_from f n k 0) e
-
--- the part of the file that a name is, as the code cuts it
-pub name_told : (file names n : List ℕ) (i : ℕ) (t b : Bool)
-    → t ≡ same_text (take (get_or names (2 * i) 0 + get_or names (2 * i + 1) 0 - get_or names (2 * i) 0) (drop (get_or names (2 * i) 0) file)) n → t ≡ b
-    → same_text (name_at file names i) n ≡ b
-name_told file names n i t b e f =
-    let z : get_or names (2 * i + 1) 0 ≡ get_or names (2 * i) 0 + get_or names (2 * i + 1) 0 - get_or names (2 * i) 0 = omega arith in
-    ap (λ (k : ℕ). same_text (take k (drop (get_or names (2 * i) 0) file)) n) z ∙ sym e ∙ f
-
-find_most : (f : ℕ → List ℕ) (n : List ℕ) (k i : ℕ) → find_from f n k i ≤ i + k
-unfolding find_from
-find_most f n zero i = omega arith
-find_most f n (suc k) i =
-    let h = find_most f n k (i + 1) in
-    choose (λ (x : ℕ). x ≤ i + suc k) (same_text (f i) n) (λ e. omega arith) (λ e. omega arith)
+      pub formed : (e ≡ length (tail (n + 1) x) → ⊥) → (f : LineFields) → f.name.now ≡ take (name_length 9 x) x
+          → f.rule.now ≡ take e (tail (n + 1) x) → f.rest.now ≡ tail (e + 1) (tail (n + 1) x) → FieldsOf s f
+      unfolding is_line
+      formed l f a b c =
+          let t = tag_of s p in
+          let z : e < length (tail (n + 1) x) = omega (arith, end_within) in
+          record {
+            line = simp (eq-eqb (get_or s 0 0) 82 t.0, eq-eqb (get_or s 1 0) 9 t.1)
+                (ap₂ (λ (i j : ℕ). ltb 0 i && ltb j (length (body_of s))) (name_is n h) rule_is
+                ∙ ap (λ (y : List ℕ). ltb 0 n && ltb e (length y)) body_is
+                ∙ rw (lt-ltb 0 n some, lt-ltb e (length (tail (n + 1) x)) z));
+            name = a ∙ ap₂ (λ (k : ℕ) (y : List ℕ). take k y) (sym h ∙ sym (name_is n h)) d;
+            rule = b ∙ ap₂ (λ (k : ℕ) (y : List ℕ). take k y) (sym rule_is) (sym body_is);
+            rest = c ∙ tail_is (e + 1) (tail (n + 1) x)
+                ∙ ap₂ (λ (k : ℕ) (y : List ℕ). drop k y) (add-one e ∙ ap suc (sym rule_is)) (sym body_is);
+            shorter = omega (arith, ap length c, tail_length (e + 1) (tail (n + 1) x), tail_length (n + 1) x, past_name, ap length d, length-drop 2 s);
+          }
 
 -- ---- the piece at the front
-module _ (f : List ℕ → ℕ) where
-  alone : (b : ℕ) (x : List ℕ) → pieces (b ∷ x) ≡ own b ∷ pieces x → Taken f (b ∷ x) (record { byte = b; origin = 0; length = 1 })
+module _ (lines : List PassedLine) where
+  alone : (b : ℕ) (x : List ℕ) → pieces (b ∷ x) ≡ own b ∷ pieces x → Taken lines (b ∷ x) (record { byte = b; origin = Own; length = 1 })
   alone b x e = record { piece = own b; first = e; code = refl; origin = refl; some = omega arith; within = omega arith }
 
-  pub taken_byte : (s : List ℕ) → 1 ≤ length s → (get_or s 0 0 ≡ 60 → ⊥) → Taken f s (record { byte = get_or s 0 0; origin = 0; length = 1 })
+  pub taken_byte : (s : List ℕ) → 1 ≤ length s → (get_or s 0 0 ≡ 60 → ⊥) → Taken lines s (record { byte = get_or s 0 0; origin = Own; length = 1 })
   taken_byte [] h g = absurd (omega arith)
   taken_byte (b ∷ x) h g = alone b x (of_byte b x (ne_eqb b 60 g))
 
-  pub taken_open : (s : List ℕ) (k : ℕ) → 1 ≤ length s → get_or s 0 0 ≡ 60 → k ≡ name_length 62 (tail 1 s) → k ≤ 0
-      → Taken f s (record { byte = get_or s 0 0; origin = 0; length = 1 })
-  taken_open [] k h e g l = absurd (omega arith)
-  taken_open (b ∷ x) k h e g l =
-      let z : name_length 62 x ≡ 0 = ap (name_length 62) (sym (tail_is 1 (b ∷ x))) ∙ sym g ∙ omega arith in
-      subst (λ (c : ℕ). Taken f (c ∷ x) (record { byte = c; origin = 0; length = 1 })) (sym e) (alone 60 x (at_open x 0 z))
+  pub taken_open : (s : List ℕ) → 1 ≤ length s → get_or s 0 0 ≡ 60 → name_length 62 (tail 1 s) ≡ 0
+      → Taken lines s (record { byte = get_or s 0 0; origin = Own; length = 1 })
+  taken_open [] h e g = absurd (omega arith)
+  taken_open (b ∷ x) h e g =
+      let z : name_length 62 x ≡ 0 = ap (name_length 62) (sym (tail_is 1 (b ∷ x))) ∙ g in
+      subst (λ (c : ℕ). Taken lines (c ∷ x) (record { byte = c; origin = Own; length = 1 })) (sym e) (alone 60 x (at_open x 0 z))
 
-  pub taken_name : (s : List ℕ) (k o : ℕ) → 1 ≤ length s → get_or s 0 0 ≡ 60 → k ≡ name_length 62 (tail 1 s) → 0 < k
-      → o ≡ f (take (k + 1 - 1) (drop 1 s)) → Taken f s (record { byte = 49; origin = o + 1; length = k + 2 })
-  taken_name [] k o h e g l w = absurd (omega arith)
-  taken_name (b ∷ x) zero o h e g l w = absurd (omega arith)
-  taken_name (b ∷ x) (suc k) o h e g l w =
-      let z : name_length 62 x ≡ suc k = ap (name_length 62) (sym (tail_is 1 (b ∷ x))) ∙ sym g in
-      let y : suc k + 2 ≡ suc (suc (suc k)) = omega arith in
-      let u : suc k + 1 - 1 ≡ suc k = omega arith in
-      let i = name_fits 62 (omega arith) x (suc k) (sym z) (λ j. omega arith) in
-      subst (λ (c : ℕ). Taken f (c ∷ x) (record { byte = 49; origin = o + 1; length = suc k + 2 })) (sym e) (record {
-        piece = named (take (suc k) x);
-        first = at_open x (suc k) z ∙ ap (λ (ps : List Piece). named (take (suc k) x) ∷ ps)
-            (skipped x (suc (suc k)) ∙ ap (λ (j : ℕ). pieces (drop j (60 ∷ x))) (sym y));
-        code = refl;
-        origin = add-one o ∙ ap suc (w ∙ ap (λ (j : ℕ). f (take j x)) u);
-        some = omega arith;
-        within = omega (arith, i.0);
-      })
-
-pub find_few : (f : ℕ → List ℕ) (n : List ℕ) (r o : ℕ) → r ≤ 16 → o ≡ find_from f n r 0 → o ≤ 16
-find_few f n r o h e = omega (arith, find_most f n r 0)
+  pub taken_name : (s n : List ℕ) → 1 ≤ length s → get_or s 0 0 ≡ 60 → 0 < name_length 62 (tail 1 s)
+      → n ≡ take (name_length 62 (tail 1 s)) (tail 1 s) → length n ≡ name_length 62 (tail 1 s) → (o : Origin) → o ≡ origin_of lines (named n)
+      → Taken lines s (record { byte = 49; origin = o; length = length n + 2 })
+  taken_name [] n h e l w g o i = absurd (omega arith)
+  taken_name (b ∷ x) n h e l w g o i = go (name_length 62 (tail 1 (b ∷ x))) refl
+    where
+      go : (k : ℕ) → k ≡ name_length 62 (tail 1 (b ∷ x)) → Taken lines (b ∷ x) (record { byte = 49; origin = o; length = length n + 2 })
+      go zero j = absurd (omega arith)
+      go (suc k) j =
+          let z : name_length 62 x ≡ suc k = ap (name_length 62) (sym (tail_is 1 (b ∷ x))) ∙ sym j in
+          let y : length n + 2 ≡ suc (suc (suc k)) = omega arith in
+          let f = name_fits 62 (omega arith) x (suc k) (sym z) (omega arith) in
+          let u : n ≡ take (suc k) x = w ∙ ap₂ (λ (i : ℕ) (y : List ℕ). take i y) (sym j) (tail_is 1 (b ∷ x)) in
+          subst (λ (c : ℕ). Taken lines (c ∷ x) (record { byte = 49; origin = o; length = length n + 2 })) (sym e) (record {
+            piece = named n;
+            first = at_open x (suc k) z ∙ ap₂ (λ (m : List ℕ) (ps : List Piece). named m ∷ ps) (sym u)
+                (skipped x (suc (suc k)) ∙ ap (λ (j : ℕ). pieces (drop j (60 ∷ x))) (sym y));
+            code = refl;
+            origin = i;
+            some = omega arith;
+            within = omega (arith, f.0);
+          })
 
 -- ---- the loop that cuts
-pub record Cutting (f : List ℕ → ℕ) (s shape origins : List ℕ) (i n : ℕ) : Type 0 where
+pub record Cutting (lines : List PassedLine) (s : List ℕ) (shape : Shape) (rest : List ℕ) : Type 0 where
   pub passed : List Piece
-  pub all : pieces s ≡ passed ++ pieces (drop i s)
-  pub few : n ≤ i
-  pub within : i ≤ length s
-  pub bytes : take n shape ≡ shape_of passed
-  pub originated : take n origins ≡ map (origin_of f) passed
-  pub long_shape : length shape ≡ 255
-  pub long_origins : length origins ≡ 255
+  pub all : pieces s ≡ passed ++ pieces rest
+  pub few : shape.n + length rest ≤ length s
+  pub bytes : take shape.n shape.bytes ≡ shape_of passed
+  pub originated : take shape.n shape.origins ≡ map (origin_of lines) passed
+  pub long_bytes : length shape.bytes ≡ 255
+  pub long_origins : length shape.origins ≡ 255
 
-pub cutting_start : (f : List ℕ → ℕ) (s shape origins : List ℕ) → length shape ≡ 255 → length origins ≡ 255 → Cutting f s shape origins 0 0
+pub cutting_start : (lines : List PassedLine) (s : List ℕ) (shape : Shape) → shape.n ≡ 0 → length shape.bytes ≡ 255 → length shape.origins ≡ 255
+    → Cutting lines s shape s
 unfolding shape_of
-cutting_start f s shape origins h g =
-    record { passed = []; all = refl; few = omega arith; within = omega arith; bytes = refl; originated = refl; long_shape = h; long_origins = g }
+cutting_start lines s shape e h g =
+    record {
+      passed = [];
+      all = refl;
+      few = omega arith;
+      bytes = ap (λ (n : ℕ). take n shape.bytes) e;
+      originated = ap (λ (n : ℕ). take n shape.origins) e;
+      long_bytes = h;
+      long_origins = g;
+    }
 
 shape_snoc : (ps : List Piece) (p : Piece) → shape_of (ps ++ p ∷ []) ≡ shape_of ps ++ code_of p ∷ []
 unfolding shape_of
@@ -189,44 +179,45 @@ shape_snoc [] (named n) = refl
 shape_snoc (own b ∷ ps) p = ap (λ (x : List ℕ). b ∷ x) (shape_snoc ps p)
 shape_snoc (named n ∷ ps) p = ap (λ (x : List ℕ). 49 ∷ x) (shape_snoc ps p)
 
-origins_snoc : (f : List ℕ → ℕ) (ps : List Piece) (p : Piece) → map (origin_of f) (ps ++ p ∷ []) ≡ map (origin_of f) ps ++ origin_of f p ∷ []
-origins_snoc f [] p = refl
-origins_snoc f (q ∷ ps) p = ap (λ (x : List ℕ). origin_of f q ∷ x) (origins_snoc f ps p)
+map_snoc : {A B : Type 0} (f : A → B) (xs : List A) (x : A) → map f (xs ++ x ∷ []) ≡ map f xs ++ f x ∷ []
+map_snoc f [] x = refl
+map_snoc f (y ∷ xs) x = ap (λ (z : List _). f y ∷ z) (map_snoc f xs x)
 
-one_more : (l : List ℕ) (n b c : ℕ) (x : List ℕ) → n < length l → take n l ≡ x → b ≡ c → take (n + 1) (set l n b) ≡ x ++ c ∷ []
-one_more l n b c x h e f =
-    ap (λ (k : ℕ). take k (set l n b)) (add-one n) ∙ take-suc-set l n b h ∙ ap₂ (λ (y : List ℕ) (d : ℕ). y ++ d ∷ []) e f
+one_more : {A : Type 0} (l : List A) (n : ℕ) (b c : A) (x : List A) → n < length l → take n l ≡ x → b ≡ c → take (n + 1) (set l n b) ≡ x ++ c ∷ []
+one_more {A} l n b c x h e f =
+    ap (λ (k : ℕ). take k (set l n b)) (add-one n) ∙ take-suc-set l n b h ∙ ap₂ (λ (y : List A) (d : A). y ++ d ∷ []) e f
 
-pub cutting_on : (f : List ℕ → ℕ) (s shape origins : List ℕ) (i n : ℕ) (q : PieceRead) → i < length s → length s ≤ 255
-    → Taken f (tail i s) q → Cutting f s shape origins i n → Cutting f s (set shape n q.byte) (set origins n q.origin) (i + q.length) (n + 1)
-cutting_on f s shape origins i n q h l t c =
-    let w = c.few in
-    let x = c.long_shape in
-    let y = c.long_origins in
-    let e : pieces (drop i s) ≡ t.piece ∷ pieces (drop (i + q.length) s) =
-    ap pieces (sym (tail_is i s)) ∙ t.first
-    ∙ ap (λ (z : List ℕ). t.piece ∷ pieces z) (ap (drop q.length) (tail_is i s) ∙ drop-drop q.length i s) in
-    record {
-      passed = c.passed ++ t.piece ∷ [];
-      all = c.all ∙ ap (λ (z : List Piece). c.passed ++ z) e ∙ sym (append_assoc c.passed (t.piece ∷ []) _);
-      few = omega (arith, t.some);
-      within = omega (arith, t.within, tail_length i s);
-      bytes = one_more shape n q.byte (code_of t.piece) (shape_of c.passed) (omega arith) c.bytes t.code
-          ∙ sym (shape_snoc c.passed t.piece);
-      originated = one_more origins n q.origin (origin_of f t.piece) (map (origin_of f) c.passed) (omega arith) c.originated t.origin
-          ∙ sym (origins_snoc f c.passed t.piece);
-      long_shape = length-set shape n q.byte ∙ x;
-      long_origins = length-set origins n q.origin ∙ y;
-    }
+module _ {lines : List PassedLine} {s : List ℕ} {shape : Shape} {rest : List ℕ} (c : Cutting lines s shape rest) where
+  pub room : length s ≤ 255 → 1 ≤ length rest → shape.n < 255
+  room h g = omega (arith, c.few)
 
-pub cutting_ends : (f : List ℕ → ℕ) (s shape origins : List ℕ) (i n : ℕ) → length s ≤ i → Cutting f s shape origins i n → Cut f s shape origins n
-unfolding pieces_from
-cutting_ends f s shape origins i n h c =
-    let w = c.few in
-    let v = c.within in
-    let e : pieces s ≡ c.passed = c.all ∙ ap (λ (z : List ℕ). c.passed ++ pieces z) (drop_of_length-le s h) ∙ append-nil c.passed in
-    record {
-      few = omega arith;
-      bytes = c.bytes ∙ ap shape_of (sym e);
-      originated = c.originated ∙ ap (map (origin_of f)) (sym e);
-    }
+  pub cutting_on : (q : PieceRead) {shape' : Shape} → length s ≤ 255 → 1 ≤ length rest → Taken lines rest q → shape' ≡ pushed shape q
+      → Cutting lines s shape' (tail q.length rest)
+  cutting_on q h l t z =
+      let n = room h l in
+      let w = c.few in
+      let x = c.long_bytes in
+      let y = c.long_origins in
+      subst (λ (z : Shape). Cutting lines s z (tail q.length rest)) (sym z) (record {
+        passed = c.passed ++ t.piece ∷ [];
+        all = c.all ∙ ap (λ (z : List Piece). c.passed ++ z) (t.first ∙ ap (λ (z : List ℕ). t.piece ∷ pieces z) (sym (tail_is q.length rest)))
+            ∙ sym (append_assoc c.passed (t.piece ∷ []) _);
+        few = omega (arith, t.some, t.within, tail_length q.length rest);
+        bytes = one_more shape.bytes shape.n q.byte (code_of t.piece) (shape_of c.passed) (omega arith) c.bytes t.code
+            ∙ sym (shape_snoc c.passed t.piece);
+        originated = one_more shape.origins shape.n q.origin (origin_of lines t.piece) (map (origin_of lines) c.passed) (omega arith) c.originated t.origin
+            ∙ sym (map_snoc (origin_of lines) c.passed t.piece);
+        long_bytes = length-set shape.bytes shape.n q.byte ∙ x;
+        long_origins = length-set shape.origins shape.n q.origin ∙ y;
+      })
+
+  pub cutting_ends : length rest ≡ 0 → Cut lines s shape
+  unfolding pieces_from
+  cutting_ends h =
+      let w = c.few in
+      let e : pieces s ≡ c.passed = c.all ∙ ap (λ (z : List ℕ). c.passed ++ pieces z) (nothing rest h) ∙ append-nil c.passed in
+      record { few = omega arith; bytes_long = c.long_bytes; origins_long = c.long_origins; bytes = c.bytes ∙ ap shape_of (sym e); originated = c.originated ∙ ap (map (origin_of lines)) (sym e) }
+    where
+      nothing : (x : List ℕ) → length x ≡ 0 → x ≡ []
+      nothing [] e = refl
+      nothing (b ∷ x) e = absurd (omega arith)

@@ -1,11 +1,11 @@
 -- What `graft` writes are the records of the reading of the replaced text. Assumes nothing.
-use Prim.Native.Nat.{ℕ, zero, suc, ◌+◌, ◌-◌, ◌≤◌, ◌<◌}
+use Prim.Native.Nat.{ℕ, zero, suc, ◌+◌, ◌≤◌, ◌<◌}
 use native.Mathlib.Omega.{arith}
 use mathlib.Core.Path.{◌≡◌, refl, sym, ap, ap₂, subst, ◌∙◌}
 use mathlib.Core.Bool.{true}
 use mathlib.Core.List.{List, [], ◌∷◌, ◌++◌, map}
-use lib.ListN.{length, get_or, take, length-append}
-use lib.Seq.{get_or-take, length-take-le}
+use lib.ListN.{length, get_or, length-append}
+use Rattle.std.specs.Prelude.{Option}
 use Rattle.event.proofs.Tests.{T_of}
 use Rattle.expression.specs.Tree.{Tree, records, node_record}
 use Rattle.expression.specs.Grammar.{Level, Reads, alt_conj, alt_bar, conj_seq, conj_amp, seq_pre, seq_more, pre_post, pre_bang, post_atom}
@@ -23,10 +23,14 @@ use Rattle.replacement.proofs.GraftRecords.{shift_records}
 use Rattle.replacement.proofs.PieceLaws.{Names}
 use Rattle.rule_line.specs.Lines.{Line}
 use Rattle.rule_line.specs.LineComputed.{has, knows, text_of, tree_named, replaced_by}
-use Rattle.rule_line.specs.Coding.{origin_of, line_at, nodes_for, named_line, grafted_nodes, Cut}
-use Rattle.rule_line.specs.declared.LineNodes.{LineNodes}
+use Rattle.rule_line.specs.Coding.{origin_of, rule_named, nodes_for, grafted_nodes}
+use Rattle.rule_line.specs.declared.PassedLine.{PassedLine}
+use Rattle.rule_line.specs.declared.shape.Origin.{Origin}
+use Rattle.rule_line.specs.declared.shape.Origin.TheVariants.{Own}
+use Rattle.rule_line.specs.declared.PassedRule.{PassedRule}
 use Rattle.rule_line.specs.Keeping.{Sound}
 use Rattle.rule_line.proofs.LineNames.{knows_all}
+use Rattle.rule_line.proofs.ByName.{Told}
 use Rattle.rule_line.proofs.ByShape.{records_by_shape}
 
 -- ---- every node's offset is that of a byte of the text
@@ -85,14 +89,13 @@ offsets_below {o = o} (atom_group {u = u} {t = t} r) =
     below_more (o + 1 + length u) (o + suc (length (u ++ 41 ∷ []))) (omega arith) (records t) (offsets_below r)
 
 -- ---- a node by its origin and place
-module _ (f : List ℕ → ℕ) (v : List ℕ → List ℕ) (t : List ℕ → Tree) (lines : List LineNodes) where
-  -- the lines hold the records of the trees that the names stand for
-  Holds : List ℕ → Type 0
-  Holds n = take (line_at lines (f n)).m (line_at lines (f n)).nodes ≡ records (t n)
+module _ (lines : List PassedLine) (v : List ℕ → List ℕ) (t : List ℕ → Tree) where
+  abbrev Holds : List ℕ → Type 0
+  Holds n = Told lines v t n
 
   node_is : (k : Kind) (o : ℕ) (F : ℕ → ℕ) (p : Piece) → Names Holds (p ∷ [])
-      → nodes_for k (origin_of f p) (F o) (named_line lines (origin_of f p)) ≡ graft_kind F (λ (j : ℕ). records (operand v t (F j) p)) o k
-  unfolding Holds records
+      → nodes_for k (rule_named lines (origin_of lines p)) (F o) ≡ graft_kind F (λ (j : ℕ). records (operand v t (F j) p)) o k
+  unfolding records
   node_is Empty o F (own b) h = refl
   node_is Epsilon o F (own b) h = refl
   node_is (Letter c) o F (own b) h = refl
@@ -101,23 +104,22 @@ module _ (f : List ℕ → ℕ) (v : List ℕ → List ℕ) (t : List ℕ → Tr
   node_is Concatenation o F (own b) h = refl
   node_is Complement o F (own b) h = refl
   node_is Star o F (own b) h = refl
-  node_is Empty o F (named n) h = refl
+  node_is Empty o F (named n) h = ap (λ (q : Option PassedRule). nodes_for Empty q (F o)) h.0.at
   node_is Epsilon o F (named n) h =
-      let z : suc (f n) - 1 ≡ f n = omega arith in
-      ap (λ (i : ℕ). shift_nodes (F o + 1) (take (line_at lines i).m (line_at lines i).nodes)) z
-      ∙ ap (shift_nodes (F o + 1)) h.0 ∙ sym (shift_records (F o + 1) (t n))
-  node_is (Letter c) o F (named n) h = refl
-  node_is Union o F (named n) h = refl
-  node_is Intersection o F (named n) h = refl
-  node_is Concatenation o F (named n) h = refl
-  node_is Complement o F (named n) h = refl
-  node_is Star o F (named n) h = refl
+      ap (λ (q : Option PassedRule). nodes_for Epsilon q (F o)) h.0.at ∙ ap (shift_nodes (F o + 1)) h.0.written
+      ∙ sym (shift_records (F o + 1) (t n))
+  node_is (Letter c) o F (named n) h = ap (λ (q : Option PassedRule). nodes_for (Letter c) q (F o)) h.0.at
+  node_is Union o F (named n) h = ap (λ (q : Option PassedRule). nodes_for Union q (F o)) h.0.at
+  node_is Intersection o F (named n) h = ap (λ (q : Option PassedRule). nodes_for Intersection q (F o)) h.0.at
+  node_is Concatenation o F (named n) h = ap (λ (q : Option PassedRule). nodes_for Concatenation q (F o)) h.0.at
+  node_is Complement o F (named n) h = ap (λ (q : Option PassedRule). nodes_for Complement q (F o)) h.0.at
+  node_is Star o F (named n) h = ap (λ (q : Option PassedRule). nodes_for Star q (F o)) h.0.at
 
   -- the piece at a byte of the shape
   record PieceAt (ps : List Piece) (o : ℕ) : Type 0 where
     piece : Piece
     operand_is : (q : ℕ) → operand_at v t q ps o ≡ operand v t q piece
-    origin_is : get_or (map (origin_of f) ps) o 0 ≡ origin_of f piece
+    origin_is : get_or (map (origin_of lines) ps) o Own ≡ origin_of lines piece
     holds : Names Holds (piece ∷ [])
 
   this : (p : Piece) (ps : List Piece) → Names Holds (p ∷ ps) → Names Holds (p ∷ [])
@@ -146,8 +148,7 @@ module _ (f : List ℕ → ℕ) (v : List ℕ → List ℕ) (t : List ℕ → Tr
   kind_at F g h o Complement e = refl
   kind_at F g h o Star e = refl
 
-  module _ (ps : List Piece) (origins places : List ℕ) (h : Names Holds ps)
-      (originated : (o : ℕ) → o < length ps → get_or origins o 0 ≡ get_or (map (origin_of f) ps) o 0)
+  module _ (ps : List Piece) (origins : List Origin) (places : List ℕ) (h : Names Holds ps) (originated : origins ≡ map (origin_of lines) ps)
       (placed : (o : ℕ) → o < length ps → get_or places o 0 ≡ place v t ps o) where
     abbrev F : ℕ → ℕ
     F o = place v t ps o
@@ -155,43 +156,41 @@ module _ (f : List ℕ → ℕ) (v : List ℕ → List ℕ) (t : List ℕ → Tr
     abbrev G : ℕ → List Node
     G o = records (operand_at v t (place v t ps o) ps o)
 
-    node_at : (k : Kind) (o : ℕ) → o < length ps → nodes_for k (get_or origins o 0) (get_or places o 0) (named_line lines (get_or origins o 0)) ≡ graft_kind F G o k
+    node_at : (k : Kind) (o : ℕ) → o < length ps
+        → nodes_for k (rule_named lines (get_or origins o Own)) (get_or places o 0) ≡ graft_kind F G o k
     node_at k o l =
         let r = piece_at ps o l h in
-        ap₂ (λ (x y : ℕ). nodes_for k x y (named_line lines x)) (originated o l ∙ r.origin_is) (placed o l)
+        ap₂ (λ (x : Origin) (y : ℕ). nodes_for k (rule_named lines x) y)
+        (ap (λ (os : List Origin). get_or os o Own) originated ∙ r.origin_is) (placed o l)
         ∙ node_is k o F r.piece r.holds
         ∙ kind_at F (λ (j : ℕ). records (operand v t (F j) r.piece)) G o k (ap records (sym (r.operand_is (F o))))
 
-    nodes_are : (ns : List Node) → Below (length ps) ns → grafted_nodes origins places lines ns ≡ graft_nodes F G ns
+    pub nodes_are : (ns : List Node) → Below (length ps) ns → grafted_nodes origins places lines ns ≡ graft_nodes F G ns
     unfolding grafted_nodes graft_nodes
     nodes_are [] b = refl
     nodes_are (n ∷ ns) b = ap₂ (λ (x y : List Node). x ++ y) (node_at n.kind n.offset b.0) (nodes_are ns b.1)
 
 -- ---- what the code writes
-shape_length : (ps : List Piece) → length (shape_of ps) ≡ length ps
+pub shape_length : (ps : List Piece) → length (shape_of ps) ≡ length ps
 unfolding shape_of
 shape_length [] = refl
 shape_length (own b ∷ ps) = ap suc (shape_length ps)
 shape_length (named n ∷ ps) = ap suc (shape_length ps)
 
-pub origins_length : (f : List ℕ → ℕ) (ps : List Piece) → length (map (origin_of f) ps) ≡ length ps
-origins_length f [] = refl
-origins_length f (p ∷ ps) = ap suc (origins_length f ps)
+pub origins_length : (lines : List PassedLine) (ps : List Piece) → length (map (origin_of lines) ps) ≡ length ps
+origins_length lines [] = refl
+origins_length lines (p ∷ ps) = ap suc (origins_length lines ps)
 
 -- from the origins that `cut` writes and the places of the pieces, `graft` writes the records of the replaced text's reading
-pub graft_writes : (f : List ℕ → ℕ) (ls : List Line) (s shape' origins places : List ℕ) (n : ℕ) (lines : List LineNodes) → Sound ls
-    → is_sentence (shape s) ≡ true → knows ls (pieces s) ≡ true → Cut f s shape' origins n → n ≤ length origins
-    → ((x : List ℕ) → has ls x ≡ true → take (line_at lines (f x)).m (line_at lines (f x)).nodes ≡ records (tree_named ls x))
+pub graft_writes : (lines : List PassedLine) (ls : List Line) (s places : List ℕ) (origins : List Origin) → Sound ls
+    → is_sentence (shape s) ≡ true → knows ls (pieces s) ≡ true → origins ≡ map (origin_of lines) (pieces s)
+    → ((x : List ℕ) → has ls x ≡ true → Told lines (text_of ls) (tree_named ls) x)
     → ((o : ℕ) → o < length (pieces s) → get_or places o 0 ≡ place (text_of ls) (tree_named ls) (pieces s) o)
     → grafted_nodes origins places lines (records (tree_of (shape s))) ≡ records (tree_of (replaced_by ls s))
-unfolding Holds
-graft_writes f ls s shape' origins places n lines d y k c l held placed =
+graft_writes lines ls s places origins d y k originated told placed =
     let r = sentence_reads (shape s) (T_of (is_sentence (shape s)) y) in
-    let e : n ≡ length (pieces s) = sym (length-take-le n origins l) ∙ ap length c.originated ∙ origins_length f (pieces s) in
     let b : Below (length (pieces s)) (records (tree_of (shape s)))
     = subst (λ (i : ℕ). Below i (records (tree_of (shape s)))) (omega (arith, shape_length (pieces s))) (offsets_below r) in
-    nodes_are f (text_of ls) (tree_named ls) lines (pieces s) origins places
-    (knows_all ls (Holds f (text_of ls) (tree_named ls) lines) held (pieces s) k)
-    (λ o h. sym (get_or-take n origins o 0 (omega arith)) ∙ ap (λ (x : List ℕ). get_or x o 0) c.originated)
-    placed (records (tree_of (shape s))) b
+    nodes_are lines (text_of ls) (tree_named ls) (pieces s) origins places (knows_all ls (Told lines (text_of ls) (tree_named ls)) told (pieces s) k)
+    originated placed (records (tree_of (shape s))) b
     ∙ sym (records_by_shape ls s d y k)

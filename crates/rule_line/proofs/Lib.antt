@@ -7,11 +7,9 @@ pub mod ByShape
 -- What the functions find: names, the shape and the origins, the sums, the records.
 pub mod CodeLaws
 pub mod SumLaws
+pub mod ByName
 pub mod GraftCode
 pub mod GraftWritten
--- The rule of a line, below lines of which the reader keeps what it keeps.
-pub mod ByName
 pub mod StoredLines
-pub mod Coded
-pub mod RuleJudged
 pub mod SentenceLaws
+pub mod RuleJudged

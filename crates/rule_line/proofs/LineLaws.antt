@@ -2,7 +2,7 @@
 use Prim.Native.Nat.{ℕ, zero, suc, ◌≤◌, ◌<◌}
 use native.Mathlib.Omega.{arith}
 use mathlib.Core.Path.{◌≡◌, refl, sym, ap, ap₂, subst, ◌∙◌}
-use mathlib.Core.Bool.{Bool, true, ◌&&◌}
+use mathlib.Core.Bool.{Bool, true, ◌&&◌, not}
 use mathlib.Core.List.{List, [], ◌∷◌, ◌++◌}
 use lib.Dec.{ltb, eqb}
 use lib.ListN.{length, get_or, take, drop, take-append-drop, length-append}
@@ -10,7 +10,7 @@ use lib.Seq.{drop-cons, take-append_seam}
 use borrow.Author.Tests.{ltb-true, lt-ltb, eqb-true, not-true, not-false}
 use Rattle.event.specs.Leading.{leading}
 use Rattle.event.specs.Text.{not_newline}
-use Rattle.event.proofs.LeadingLaws.{leading_found}
+use Rattle.event.proofs.LeadingLaws.{leading_found, leading_up_to}
 use Rattle.replacement.specs.Replaced.{is_lower, Name}
 use Rattle.replacement.specs.Pieces.{name_length}
 use Rattle.replacement.proofs.NameLaws.{name_ahead, NameFound, name_found, past, both}
@@ -72,9 +72,7 @@ pub record Split (text n s more : List ℕ) : Type 0 where
   pub rest : drop (suc (rule_of text)) (body_of text) ≡ more
 
 leads : (s more : List ℕ) → OneLine s → leading not_newline (s ++ 10 ∷ more) ≡ length s
-unfolding leading
-leads [] more h = refl
-leads (b ∷ s) more h = rw h.0 (ap suc (leads s more h.1))
+leads s more h = leading_up_to not_newline OneLine (λ b u a. (ap not a.0, a.1)) 10 refl s more h
 
 split : (n s more : List ℕ) → Name n → OneLine s → Split (line_of n s more) n s more
 unfolding is_line is_lower

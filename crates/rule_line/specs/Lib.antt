@@ -4,6 +4,7 @@ pub mod LineMeaning
 -- The same by computation.
 pub mod LineComputed
 -- What the functions do, and what the reader keeps of the lines that have passed.
+pub mod Offsets
 pub mod Coding
 pub mod Summing
 pub mod Keeping

@@ -1,16 +1,10 @@
 -- What the functions that sum up the pieces of a rule do. Assumes nothing.
-use Rattle.std.specs.Prelude.{ℕ, zero, suc, ◌+◌, ◌*◌, ◌≤◌, ◌<◌, ◌≡◌, Bool, true, ◌&&◌, List, [], ◌∷◌, leb, length, get_or, take}
+use Rattle.std.specs.Prelude.{ℕ, ◌+◌, ◌-◌, ◌*◌, ◌≤◌, ◌<◌, ◌≡◌, Option, None, Some, List, [], ◌∷◌, length, get_or, take}
+use Rattle.rule_line.specs.declared.PassedLine.{PassedLine}
+use Rattle.rule_line.specs.declared.PassedRule.{PassedRule}
+use Rattle.rule_line.specs.declared.shape.Origin.{Origin}
 use Rattle.rule_line.specs.declared.sums.Sums.{Sums}
-
--- every origin is 0 or one of r lines
-unfoldable pub known_in : ℕ → List ℕ → Bool
-known_in r [] = true
-known_in r (o ∷ os) = leb o r && known_in r os
-
--- three numbers for each of 16 lines, all small
-pub record Facts (facts : List ℕ) : Type 0 where
-  pub long : length facts ≡ 48
-  pub small : (i : ℕ) → get_or facts i 0 ≤ 1000000
+use Rattle.rule_line.specs.Coding.{rule_named}
 
 -- what n pieces can come to
 pub record SmallSums (w : Sums) (n : ℕ) : Type 0 where
@@ -18,27 +12,20 @@ pub record SmallSums (w : Sums) (n : ℕ) : Type 0 where
   pub nodes_most : w.nodes ≤ n * 1000000
   pub specials_most : w.specials ≤ n * 1000000
 
--- with one piece more, of the origin o
-abbrev pub summed_one : List ℕ → Sums → ℕ → Sums
-summed_one facts w zero = record { length = w.length + 1; nodes = w.nodes; specials = w.specials }
-summed_one facts w (suc i) =
-    record {
-      length = w.length + get_or facts (3 * i) 0 + 2;
-      nodes = w.nodes + get_or facts (3 * i + 1) 0;
-      specials = w.specials + get_or facts (3 * i + 2) 0;
-    }
+-- with one piece more, that names a rule or none
+abbrev pub summed_one : Sums → Option PassedRule → Sums
+summed_one w None = record { length = w.length + 1; nodes = w.nodes; specials = w.specials }
+summed_one w (Some q) =
+    record { length = w.length + q.text_length + 2; nodes = w.nodes + (q.records.m - 1); specials = w.specials + q.records.k }
 
-unfoldable pub summed : List ℕ → Sums → List ℕ → Sums
-summed facts w [] = w
-summed facts w (o ∷ os) = summed facts (summed_one facts w o) os
+unfoldable pub summed : List PassedLine → Sums → List Origin → Sums
+summed lines w [] = w
+summed lines w (o ∷ os) = summed lines (summed_one w (rule_named lines o)) os
 
 abbrev pub no_sums : Sums
 no_sums = record { length = 0; nodes = 0; specials = 0 }
 
-abbrev pub AllKnown : List ℕ → Type 0
-AllKnown origins = (j : ℕ) → get_or origins j 0 ≤ 16
-
 -- the sums of the pieces, and each byte's place: the length of what stands before it
-pub record Summed (facts origins places : List ℕ) (w : Sums) : Type 0 where
-  pub sums : w ≡ summed facts no_sums origins
-  pub placed : (j : ℕ) → j < length origins → get_or places j 0 ≡ (summed facts no_sums (take j origins)).length
+pub record Summed (lines : List PassedLine) (origins : List Origin) (places : List ℕ) (w : Sums) : Type 0 where
+  pub sums : w ≡ summed lines no_sums origins
+  pub placed : (j : ℕ) → j < length origins → get_or places j 0 ≡ (summed lines no_sums (take j origins)).length

@@ -8,10 +8,13 @@ mod shape;
 mod sums;
 pub mod text;
 
-use expression::Node;
+ghost use Rattle.std.specs.Prelude.{◌≡◌, ◌≤◌, length};
+ghost use Rattle.rule_line.specs.Offsets.{OffsetsWithin};
+
+use expression::records::Records;
 
 // Why a line of a rule file is refused.
-#[derive(Clone, Copy)]
+#[derive(Clone, Copy, PartialEq, Eq)]
 pub enum Refusal {
     ManyLines,
     OtherForm,
@@ -27,10 +30,45 @@ pub enum Refusal {
     ManySpecials,
 }
 
-// A line of the answer: m and k of its replaced text, and its records, of which the first m are the nodes'.
+impl Refusal {
+    ghost use Rattle.rule_line.specs.Lines.{refusal_number};
+
+    // The number of each refusal.
+    pub fn number(self) -> u64
+        ensures { result ≡ refusal_number self }
+    {
+        match self {
+            Refusal::ManyLines => 19,
+            Refusal::OtherForm => 16,
+            Refusal::TakenName => 18,
+            Refusal::EmptyText => 1,
+            Refusal::LongText => 2,
+            Refusal::ForeignByte => 3,
+            Refusal::NoSentence => 4,
+            Refusal::UnknownName => 17,
+            Refusal::UnorderedSet => 20,
+            Refusal::DoubleStar => 21,
+            Refusal::ManyNodes => 5,
+            Refusal::ManySpecials => 6,
+        }
+    }
+}
+
+// A rule that has passed: the length of its text after replacement, and the records of that text. Each line adds at most 255 bytes for each
+// of at most 64 nodes, so that no sum of lengths is too large.
 #[derive(Clone, Copy)]
-pub struct LineNodes {
-    pub m: usize,
-    pub k: usize,
-    pub nodes: [Node; 64],
+pub struct PassedRule {
+    pub text_length: usize,
+    pub records: Records,
+    ghost length_bound: { text_length ≤ 1000000 },
+    ghost some_node: { 1 ≤ records.m },
+    ghost nodes_long: { length records.nodes ≡ 64 },
+    ghost offsets_bound: { OffsetsWithin 1000000 records.nodes },
+}
+
+// A line that has passed.
+#[derive(Clone, Copy)]
+pub struct PassedLine<'a> {
+    pub name: &'a [u8],
+    pub rule: PassedRule,
 }

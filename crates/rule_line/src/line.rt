@@ -1,40 +1,38 @@
 // One line of a rule file.
-ghost use Rattle.std.specs.Prelude.{◌≡◌};
-ghost use Rattle.rule_line.specs.Coding.{line_read};
+ghost use Rattle.std.specs.Prelude.{◌≡◌, false, MatchOption};
+ghost use Rattle.rule_line.specs.LineComputed.{is_line};
+ghost use Rattle.rule_line.specs.Coding.{FieldsOf};
 
-use crate::names::name_length;
-use event::text::{byte_at, find_newline};
+use crate::names::read_name;
+use event::text::find_newline;
 
-// The line's tag and the byte that parts its fields.
-const RULE_TAG: u8 = b'R';
+// What a line begins with, and the byte that parts its fields.
+const RULE_TAG: &[u8] = b"R\t";
 
 const TAB: u8 = b'\t';
 
-// What stands at the front of an unread file: a line of the form, with the lengths of its name and its rule, or none.
+// A line of the form at the front of an unread file: its name and its rule, and what follows the line.
 #[derive(Clone, Copy)]
-pub enum LineRead {
-    Formed(usize, usize),
-    Malformed,
+pub struct LineFields<'a> {
+    pub name: &'a [u8],
+    pub rule: &'a [u8],
+    pub rest: &'a [u8],
 }
 
 // Reads the line at the front of an unread file.
-pub fn read_line(s: &[u8]) -> LineRead
-    ensures { result ≡ line_read s.now }
+pub fn read_line(s: &[u8]) -> Option<LineFields>
+    ensures { MatchOption result (is_line s.now ≡ false) (FieldsOf s.now) }
 {
-    if byte_at(s, 0) != RULE_TAG {
-        return LineRead::Malformed;
+    let fields = s.strip_prefix(RULE_TAG)?;
+    let name = read_name(fields, TAB)?;
+    let body = &fields[name.len() + 1..];
+    let end = find_newline(body);
+    if end == body.len() {
+        return None;
     }
-    if byte_at(s, 1) != TAB {
-        return LineRead::Malformed;
-    }
-    let n = name_length(&s[2..], TAB);
-    if n == 0 {
-        return LineRead::Malformed;
-    }
-    let body = n + 3;
-    let e = find_newline(&s[body..]);
-    if body + e < s.len() {
-        return LineRead::Formed(n, e);
-    }
-    LineRead::Malformed
+    Some(LineFields {
+        name,
+        rule: &body[..end],
+        rest: &body[end + 1..],
+    })
 }

@@ -22,43 +22,36 @@ pub fn block_length(n: usize) -> usize
     (n + 1) * 4
 }
 
-// Clears a block.
-pub fn clear_block(table: &mut [u64], block: Block)
-    requires { Lies block (length table.old) }
-    ensures { Cleared table.old block table.new }
-{
-    let first = block.first;
-    let numbers = block_length(block.n);
-    bits::clear(&mut table[first..first + numbers], numbers);
-}
+// That a block lies in a table is asked at each call: it is a fact of both, and the table is lent.
+impl Block {
+    // Clears the block.
+    pub fn clear(self, table: &mut [u64])
+        requires { Lies self (length table.old) }
+        ensures { Cleared table.old self table.new }
+    {
+        table[self.first..self.first + block_length(self.n)].fill(0);
+    }
 
-// Row i of a block.
-pub fn read_row(table: &[u64], block: Block, i: usize) -> [u64; 4]
-    requires lies { Lies block (length table.now) }
-    requires i_le_n { i ≤ block.n }
-    ensures { (k : ℕ) → k < 256 → bit_at result k ≡ row_bit table.now block i k }
-{
-    let first = block.first;
-    let at = first + 4 * i;
-    let mut row = [0u64; 4];
-    row[0] = table[at];
-    row[1] = table[at + 1];
-    row[2] = table[at + 2];
-    row[3] = table[at + 3];
-    row
-}
+    // Row i of the block.
+    pub fn read_row(self, table: &[u64], i: usize) -> [u64; 4]
+        requires lies { Lies self (length table.now) }
+        requires i_le_n { i ≤ self.n }
+        ensures { (k : ℕ) → k < 256 → bit_at result k ≡ row_bit table.now self i k }
+    {
+        let at = self.first + 4 * i;
+        [table[at], table[at + 1], table[at + 2], table[at + 3]]
+    }
 
-// Adds the spans of a row to row i of a block.
-pub fn add_row(table: &mut [u64], block: Block, i: usize, row: &[u64])
-    requires lies { Lies block (length table.old) }
-    requires i_le_n { (i ≤ block.n) × (length row.now ≡ 4) }
-    requires by_index { (k : ℕ) → bit_at row.now k ≡ true → (i ≤ k) × (k ≤ block.n) }
-    ensures { Adds table.old (RowSpan block i row.now) table.new }
-{
-    let first = block.first;
-    let at = first + 4 * i;
-    bits::merge(table, at, row[0]);
-    bits::merge(table, at + 1, row[1]);
-    bits::merge(table, at + 2, row[2]);
-    bits::merge(table, at + 3, row[3]);
+    // Adds the spans of a row to row i of the block.
+    pub fn add_row(self, table: &mut [u64], i: usize, row: &[u64; 4])
+        requires lies { Lies self (length table.old) }
+        requires i_le_n { i ≤ self.n }
+        requires by_index { (k : ℕ) → bit_at row.now k ≡ true → (i ≤ k) × (k ≤ self.n) }
+        ensures { Adds table.old (RowSpan self i row.now) table.new }
+    {
+        let at = self.first + 4 * i;
+        for h in 0..4 {
+            bits::merge(table, at + h, row[h]);
+        }
+    }
 }

@@ -8,17 +8,18 @@ use native.Mathlib.Omega.{arith}
 use lib.ListN.{length, replicate}
 use Rattle.bits.specs.Bit.{bit_at}
 use Rattle.moves.specs.Reached.{Reached, start, after}
-use Rattle.marks.specs.declared.Target.{Target}
+use Rattle.marks.specs.declared.target.Target.{Target}
 use Rattle.marks.specs.Marks.{StoredAt, StartsAt}
 use Rattle.marks.specs.Ends.{Initial, EndsThere, EndedRow}
 use Rattle.marks.proofs.EndLaws.{at_number, marks_size}
-use Rattle.walk.specs.Automaton.{Automaton, FreeStep, LetterStep, SpanStep, Step, Ready}
+use Rattle.walk.proofs.Ready.{Ready}
+use Rattle.walk.specs.Course.{Course, FreeStep, LetterStep, SpanStep, Step}
 use Rattle.walk.specs.Starts.{Started}
 
 -- ---- a walk that goes no further
 
-module _ {t : Automaton} (o : Target) {i : ℕ} {a : List ℕ} (ready : Ready t) (within : i ≤ length t.word)
-    (ends : (0 < o.left) × (o.left < 128) × (0 < o.right) × (o.right < 128)) (initial : Initial t.closed o a)
+module _ {t : Course} (o : Target) {i : ℕ} {a : List ℕ} (ready : Ready t) (within : i ≤ length t.word)
+    (initial : Initial t.closed o a)
     (d : EndsThere t.letters t.specials t.word i a) where
   module _ {m : List ℕ} (stored : StoredAt (replicate 512 0) a i m) where
     free_from : (s q : ℕ) → s < 128 → q / 128 ≡ i → bit_at t.closed (128 * s + q % 128) ≡ true → Step t (128 * i + s) q

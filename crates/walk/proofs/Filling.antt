@@ -18,8 +18,9 @@ use Rattle.levels.proofs.SetLaws.{same_bits}
 use Rattle.table.specs.declared.Block.{Block}
 use Rattle.table.specs.Layout.{block_at, span_bit, InBlock, SpanAt, RowSpan, Cleared}
 use Rattle.table.proofs.LayoutLaws.{span_in, span_one}
-use Rattle.marks.specs.declared.Target.{Target}
-use Rattle.walk.specs.Automaton.{Automaton, FreeStep, LetterStep, SpanStep, Step, Ready}
+use Rattle.marks.specs.declared.target.Target.{Target}
+use Rattle.walk.proofs.Ready.{Ready}
+use Rattle.walk.specs.Course.{Course, FreeStep, LetterStep, SpanStep, Step}
 use Rattle.walk.specs.Filled.{block_of, Apart, sum_below, visits, Filled}
 use Rattle.marks.specs.Marks.{StartsAt}
 use Rattle.marks.specs.Rows.{judged}
@@ -29,7 +30,7 @@ use Rattle.marks.specs.Rows.{row_of}
 -- ---- walks over two tables that agree but for an owner's own block
 
 -- the automaton with another table
-abbrev pub with_table : Automaton → List ℕ → Automaton
+abbrev pub with_table : Course → List ℕ → Course
 with_table t b =
     record { closed = t.closed; letters = t.letters; specials = t.specials; firsts = t.firsts; word = t.word; table = b }
 
@@ -37,7 +38,7 @@ with_table t b =
 abbrev SameOutside : (b : Block) (c d : List ℕ) → Type 0
 SameOutside b c d = (q : ℕ) → (InBlock b q → ⊥) → bit_at c q ≡ bit_at d q
 
-module _ {t : Automaton} (o : Target) (apart : Apart t o) (short : length t.word ≤ 255) where
+module _ {t : Course} (o : Target) (apart : Apart t o) (short : length t.word ≤ 255) where
   span_agree : (c d : List ℕ) → SameOutside (block_of t o) c d → (i p q : ℕ) → i ≤ length t.word → Reached (StartsAt o i) (Step t) p
       → SpanStep t.specials t.firsts c (length t.word) p q → SpanStep t.specials t.firsts d (length t.word) p q
   span_agree c d agree i p q h e f =
@@ -127,7 +128,7 @@ unfolding row_of
 row_is marks o i n k h l = rw (le-leb i k h, le-leb k n l)
 
 -- what holds before start i: b is the table now
-pub record Filling (t : Automaton) (o : Target) (count limit i : ℕ) (b : List ℕ) (c : ℕ) : Type 0 where
+pub record Filling (t : Course) (o : Target) (count limit i : ℕ) (b : List ℕ) (c : ℕ) : Type 0 where
   pub ready : Ready t
   pub apart : Apart t o
   pub marks : ℕ → List ℕ
@@ -141,7 +142,7 @@ pub record Filling (t : Automaton) (o : Target) (count limit i : ℕ) (b : List 
   pub outside : (q : ℕ) → (InBlock (block_of t o) q → ⊥) → bit_at b q ≡ bit_at t.table q
   pub long : length b ≡ length t.table
 
-module _ {t : Automaton} {o : Target} {count limit : ℕ} where
+module _ {t : Course} {o : Target} {count limit : ℕ} where
   pub filling_start : {b : List ℕ} → Ready t → Apart t o → count ≤ limit → Cleared t.table (block_of t o) b
       → Filling t o count limit 0 b count
   unfolding sum_below
@@ -159,23 +160,6 @@ module _ {t : Automaton} {o : Target} {count limit : ℕ} where
     outside = z.outside;
     long = z.long;
   }
-
-  -- the automaton is ready over the table now
-  pub filling_ready : {b : List ℕ} {c i : ℕ} → Filling t o count limit i b c → Ready (with_table t b)
-  filling_ready g =
-      let s = g.ready in
-      record {
-        closed = s.closed;
-        letters = s.letters;
-        specials = s.specials;
-        firsts = s.firsts;
-        word = s.word;
-        room = rw g.long s.room;
-        reflexive = s.reflexive;
-        transitive = s.transitive;
-        special = s.special;
-        letter = s.letter;
-      }
 
   module _ {b b' : List ℕ} {c c' i : ℕ} {spent : Bool} (g : Filling t o count limit i b c) (k : i ≤ length t.word)
       (s : Started (with_table t b) o i c limit b' c' spent) where

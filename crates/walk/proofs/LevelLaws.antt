@@ -6,6 +6,7 @@ use mathlib.Core.List.{List}
 use Prim.Native.Nat.{ℕ, ◌+◌, ◌-◌, ◌*◌, ◌/◌, ◌%◌, ◌≤◌, ◌<◌}
 use native.Mathlib.Omega.{arith}
 use lib.ListN.{length, get_or, replicate}
+use Rattle.std.proofs.lemmas.Bool.{cases_lt}
 use Rattle.bits.specs.Bit.{bit_at}
 use Rattle.bits.specs.Runs.{tally_below, Adds}
 use Rattle.bits.proofs.Digits.{same_or_not}
@@ -17,8 +18,9 @@ use Rattle.table.specs.Layout.{block_at}
 use Rattle.table.proofs.LayoutLaws.{row_span}
 use Rattle.levels.specs.Sets.{InSet, Exactly, Among, AllLed}
 use Rattle.levels.specs.Exits.{to_come, DueExit, Full, FullAt, has_span, SpanHere, StepHere, Entered, Begun, Saturated}
-use Rattle.levels.proofs.SetLaws.{in_set, same_bits}
-use Rattle.walk.specs.Automaton.{Automaton, FreeStep, LetterStep, SpanStep, Step, Ready}
+use Rattle.levels.proofs.SetLaws.{same_bits}
+use Rattle.walk.proofs.Ready.{Ready}
+use Rattle.walk.specs.Course.{Course, FreeStep, LetterStep, SpanStep, Step}
 use Rattle.marks.specs.Marks.{PlaceOf, MarkedAt}
 use Rattle.marks.specs.Steps.{NextExit}
 use Rattle.walk.specs.Walks.{Pending, MarkedOrDue, SpanExit, Joins, LevelSet}
@@ -84,8 +86,8 @@ open_entry x v q u l =
 pub full_at : {x v f : List ℕ} (j n : ℕ) → j ≤ n → Full x v f j n → FullAt x v f j
 full_at j n l u s k e = (u.are_open s k e, u.left s k e j (omega arith) l)
 
-module _ (t : Automaton) (ready : Ready t) (j : ℕ) (jn : j ≤ length t.word) (a x v f : List ℕ) (inside : Among v t.specials)
-    (two : length v ≡ 2) (full : Full x v f j (length t.word)) {d todo w : List ℕ} (due : Exactly (DueExit x v j) d)
+module _ (t : Course) (ready : Ready t) (j : ℕ) (jn : j ≤ length t.word) (a x v f : List ℕ) (inside : Among v t.specials)
+    (full : Full x v f j (length t.word)) {d todo w : List ℕ} (due : Exactly (DueExit x v j) d)
     (marked : Adds d (MarkedAt a j) todo) (led : AllLed t.closed todo w) where
   -- a state that the walk is at
   todo_is : (s : ℕ) → bit_at todo s ≡ true → DueExit x v j s ⊎ MarkedAt a j s
@@ -219,9 +221,12 @@ module _ (t : Automaton) (ready : Ready t) (j : ℕ) (jn : j ≤ length t.word) 
     level_exits : Joins j (length t.word) (to_come x v) (SpanExit t j e) (to_come y u)
     level_exits = record {
       old = λ q h.
-          let l : 2 * (q / 256) < 128 = in_set v two (2 * (q / 256)) (and_first (bit_at v (2 * (q / 256))) (bit_at x q) h) in
+          ⊎_elim
+          (λ (l : 2 * (q / 256) < 128).
           ⊎_elim (λ (z : Entered t.specials f e (2 * (q / 256))). joined_to q z (inl h))
-          (λ (z : Entered t.specials f e (2 * (q / 256)) → ⊥). kept_as q z ∙ h) (entered_or_not (2 * (q / 256)) l);
+          (λ (z : Entered t.specials f e (2 * (q / 256)) → ⊥). kept_as q z ∙ h) (entered_or_not (2 * (q / 256)) l))
+          (λ (l : 128 ≤ 2 * (q / 256)). kept_as q (λ z. let k = z.small in omega arith) ∙ h)
+          (cases_lt (2 * (q / 256)) 128);
       new = λ q h lo hi.
           let i = h.small in
           let l : 2 * (q / 256) < 128 = omega arith in
@@ -292,7 +297,7 @@ module _ (t : Automaton) (ready : Ready t) (j : ℕ) (jn : j ≤ length t.word) 
 
 -- ---- a number that is passed
 
-module _ (t : Automaton) (ready : Ready t) (j : ℕ) (jn : j ≤ length t.word) {a e b u : List ℕ} {X Y : ℕ → Bool}
+module _ (t : Course) (ready : Ready t) (j : ℕ) (jn : j ≤ length t.word) {a e b u : List ℕ} {X Y : ℕ → Bool}
     (set : LevelSet t j a X e Y u) (marked : Adds a (PlaceOf e j) b) where
   -- the marks at number j are the set
   to_set : (q : ℕ) → q / 128 ≡ j → bit_at b q ≡ true → bit_at e (q % 128) ≡ true

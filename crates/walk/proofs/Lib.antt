@@ -1,4 +1,5 @@
 -- Laws that the proofs of its functions cite.
+mod Ready
 mod Caching
 mod LevelLaws
 mod WalkLaws

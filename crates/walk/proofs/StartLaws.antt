@@ -12,8 +12,8 @@ use Rattle.bits.proofs.Laws.{zeros_bit}
 use Rattle.moves.specs.Reached.{start}
 use Rattle.moves.proofs.Paths.{reached_from}
 use Rattle.table.specs.Layout.{RowSpan}
-use Rattle.marks.specs.declared.Target.{Target}
-use Rattle.walk.specs.Automaton.{Automaton}
+use Rattle.marks.specs.declared.target.Target.{Target}
+use Rattle.walk.specs.Course.{Course}
 use Rattle.walk.specs.Filled.{block_of}
 use Rattle.walk.specs.Walks.{Walked}
 use Rattle.walk.specs.Starts.{Started}
@@ -26,13 +26,14 @@ starts_only o i h q e =
     (h.only q e)
 
 -- the marks of a start stand at its number
-pub starts_at : {a : List ℕ} (o : Target) (i : ℕ) → (0 < o.left) × (o.left < 128) × (0 < o.right) × (o.right < 128)
-    → Adds (replicate 512 0) (StartsAt o i) a → (q : ℕ) → bit_at a q ≡ true → q / 128 ≡ i
-starts_at o i d h q u =
+pub starts_at : {a : List ℕ} (o : Target) (i : ℕ) → Adds (replicate 512 0) (StartsAt o i) a → (q : ℕ) → bit_at a q ≡ true → q / 128 ≡ i
+starts_at o i h q u =
+    let l = o.left_bound in
+    let r = o.right_bound in
     ⊎_elim (λ (e : q ≡ 128 * i + (o.left - 1)). omega arith) (λ (e : q ≡ 128 * i + (o.right - 1)). omega arith) (starts_only o i h q u)
 
 -- done is what the start's function answers
-pub started : {t : Automaton} {a m b : List ℕ} {count limit c : ℕ} {spent done : Bool} (o : Target) (i : ℕ)
+pub started : {t : Course} {a m b : List ℕ} {count limit c : ℕ} {spent done : Bool} (o : Target) (i : ℕ)
     → Adds (replicate 512 0) (StartsAt o i) a → Walked t count limit a m c spent → spent ≡ done
     → (done ≡ false → (r : List ℕ) × ((k : ℕ) → k < 256 → bit_at r k ≡ row_of m o i (length t.word) k)
     × Adds t.table (RowSpan (block_of t o) i r) b)

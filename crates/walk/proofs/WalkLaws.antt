@@ -18,7 +18,8 @@ use Rattle.table.proofs.LayoutLaws.{row_span}
 use Rattle.levels.specs.Sets.{Among}
 use Rattle.levels.specs.Exits.{to_come, Full}
 use Rattle.levels.proofs.SetLaws.{same_bits}
-use Rattle.walk.specs.Automaton.{Automaton, FreeStep, LetterStep, SpanStep, Step, Ready}
+use Rattle.walk.proofs.Ready.{Ready}
+use Rattle.walk.specs.Course.{Course, FreeStep, LetterStep, SpanStep, Step}
 use Rattle.marks.specs.Marks.{NoneAt, Finished, EndsBefore}
 use Rattle.marks.specs.Steps.{WentOn, Stopped}
 use Rattle.walk.specs.Walks.{Pending, MarkedOrDue, SpanExit, LevelSet, Walked}
@@ -27,7 +28,7 @@ use Rattle.walk.proofs.LevelLaws.{coming_of, open_entry, below_b, only_b, waitin
 use Rattle.walk.proofs.LevelLaws.{tally_c}
 
 -- a step does not lead past the word's end
-step_within : (t : Automaton) → Ready t → (p q : ℕ) → Step t p q → p / 128 ≤ length t.word → q / 128 ≤ length t.word
+step_within : (t : Course) → Ready t → (p q : ℕ) → Step t p q → p / 128 ≤ length t.word → q / 128 ≤ length t.word
 step_within t r p q g h =
     ⊎_elim (λ (f : FreeStep t.closed p q). let e = f.number in omega arith)
     (λ g'.
@@ -54,20 +55,19 @@ pub full_start : (x : List ℕ) (j n : ℕ) → Full x nothing nothing j n
 full_start x j n = record { two = refl; are_open = λ s _ e. e; left = λ s _ e. absurd (none_open s e) }
 
 -- what a walk begins with: the marks a stand at number i
-pub record Beginning (t : Automaton) (i : ℕ) (a : List ℕ) : Type 0 where
+pub record Beginning (t : Course) (i : ℕ) (a : List ℕ) : Type 0 where
   pub ready : Ready t
   pub number : i ≤ length t.word
   pub marked : (q : ℕ) → bit_at a q ≡ true → q / 128 ≡ i
-  pub long : length a ≡ 512
 
 -- all that is reached is within the word
-reached_within : {t : Automaton} {i : ℕ} {a : List ℕ} → Beginning t i a
+reached_within : {t : Course} {i : ℕ} {a : List ℕ} → Beginning t i a
     → {q : ℕ} → Reached (λ (p : ℕ). bit_at a p ≡ true) (Step t) q → q / 128 ≤ length t.word
 reached_within {t} u {q} (start s) = let n = u.marked q s in let m = u.number in omega arith
 reached_within {t} u {q} (after {p} r h) = step_within t u.ready p q h (reached_within u r)
 
 -- what holds before number j: a are the marks at the beginning, b the marks now, x with v the exits to come, v the open nodes' entries
-pub record Before (t : Automaton) (i count limit j : ℕ) (a b x v : List ℕ) (c : ℕ) : Type 0 where
+pub record Before (t : Course) (i count limit j : ℕ) (a b x v : List ℕ) (c : ℕ) : Type 0 where
   pub begun : Beginning t i a
   pub old : (q : ℕ) → bit_at a q ≡ true → bit_at b q ≡ true
   pub only : (q : ℕ) → bit_at b q ≡ true → Reached (λ (p : ℕ). bit_at a p ≡ true) (Step t) q
@@ -79,17 +79,17 @@ pub record Before (t : Automaton) (i count limit j : ℕ) (a b x v : List ℕ) (
   pub counted : c ≡ count + tally_below (128 * j) (bit_at b)
   pub bounded : c ≤ limit
   pub within : j ≤ length t.word + 1
-  pub lengths : (length b ≡ 512) × (length x ≡ 256) × (length v ≡ 2)
+  pub long : length b ≡ length a
 
-module _ {t : Automaton} {i count limit : ℕ} {a : List ℕ} where
+module _ {t : Course} {i count limit : ℕ} {a : List ℕ} where
   -- a walk begins
-  pub before_start : (x : List ℕ) → Ready t → (length a ≡ 512) × (i ≤ length t.word) × (count ≤ limit) × (length x ≡ 256)
+  pub before_start : (x : List ℕ) → Ready t → (i ≤ length t.word) × (count ≤ limit)
       → ((q : ℕ) → bit_at a q ≡ true → q / 128 ≡ i) → Before t i count limit i a a x nothing count
   before_start x r n m =
       let z = tally_none (128 * i) (bit_at a) (λ s k. fails (bit_at a s) (λ e. let y = m s e in omega arith)) in
-      let w = n.1 in
+      let w = n.0 in
       record {
-        begun = record { ready = r; number = n.1; marked = m; long = n.0 };
+        begun = record { ready = r; number = n.0; marked = m };
         old = λ q e. e;
         only = λ q e. start e;
         coming = λ q _ k w'. let jw = r.word in absurd (none_open (q % 128 - 1) (open_entry x nothing q w' (omega arith)));
@@ -97,9 +97,9 @@ module _ {t : Automaton} {i count limit : ℕ} {a : List ℕ} where
         above = λ q e. let y = m q e in omega arith;
         inside = λ s _ e. absurd (none_open s e);
         counted = omega arith;
-        bounded = n.2;
+        bounded = n.1;
         within = omega arith;
-        lengths = (n.0, n.3, refl);
+        long = refl;
       }
 
   module _ {b x v v' e : List ℕ} (x' : List ℕ) {c j : ℕ} (g : Before t i count limit j a b x v c) (jn : j ≤ length t.word)
@@ -114,7 +114,7 @@ module _ {t : Automaton} {i count limit : ℕ} {a : List ℕ} where
 
     -- ---- the walk goes on
 
-    module _ {b' : List ℕ} {c' : ℕ} (on : WentOn t.letters t.word e j c limit b b' c') (lengths : (length x' ≡ 256) × (length v' ≡ 2)) where
+    module _ {b' : List ℕ} {c' : ℕ} (on : WentOn t.letters t.word e j c limit b b' c') where
       below_c : (q : ℕ) → q / 128 < j → bit_at b' q ≡ true → bit_at b q ≡ true
       below_c q k d = below_b t g.begun.ready j jn l on.marked q k (back t g.begun.ready j jn l on.marked on.read q (omega arith) d)
 
@@ -179,7 +179,7 @@ module _ {t : Automaton} {i count limit : ℕ} {a : List ℕ} where
             counted = omega arith;
             bounded = on.bounded;
             within = omega arith;
-            lengths = (on.read.long ∙ on.marked.long ∙ g.lengths.0, lengths.0, lengths.1);
+            long = on.read.long ∙ on.marked.long ∙ g.long;
           }
 
     -- ---- the limit is passed
@@ -199,7 +199,7 @@ module _ {t : Automaton} {i count limit : ℕ} {a : List ℕ} where
           over = λ _. omega arith;
           spends = λ _. z.spends;
           bounded = omega arith;
-          long = z.marked.long ∙ g.lengths.0 ∙ sym g.begun.long;
+          long = z.marked.long ∙ g.long;
         }
 
   -- where no more exit is to come, all that is reached is marked, and it is marked before j
@@ -212,7 +212,7 @@ module _ {t : Automaton} {i count limit : ℕ} {a : List ℕ} where
     over = λ f. absurd (false≢true f);
     spends = λ f. absurd (false≢true f);
     bounded = g.bounded;
-    long = g.lengths.0 ∙ sym g.begun.long;
+    long = g.long;
   }
     where
       every : {q : ℕ} → Reached (λ (p : ℕ). bit_at a p ≡ true) (Step t) q → bit_at b q ≡ true

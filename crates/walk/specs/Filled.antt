@@ -3,20 +3,20 @@ use Rattle.std.specs.Prelude.{ℕ, zero, suc, ◌+◌, ◌*◌, ◌/◌, ◌%◌
 use Rattle.bits.specs.Bit.{bit_at}
 use Rattle.bits.specs.Runs.{tally_below}
 use Rattle.moves.specs.Reached.{Reached}
-use Rattle.marks.specs.declared.Target.{Target}
+use Rattle.marks.specs.declared.target.Target.{Target}
 use Rattle.marks.specs.Marks.{StartsAt}
 use Rattle.marks.specs.Rows.{judged}
 use Rattle.table.specs.declared.Block.{Block}
 use Rattle.table.specs.Layout.{block_at, span_bit, InBlock, SpanAt}
 use Rattle.work.specs.Table.{block_length}
-use Rattle.walk.specs.Automaton.{Automaton, Step}
+use Rattle.walk.specs.Course.{Course, Step}
 
 -- the target's block in the automaton's table
-abbrev pub block_of : Automaton → Target → Block
+abbrev pub block_of : Course → Target → Block
 block_of t o = block_at o.first (length t.word)
 
 -- the target's block is none of those that its walks go by
-abbrev pub Apart : (t : Automaton) (o : Target) → Type 0
+abbrev pub Apart : (t : Course) (o : Target) → Type 0
 Apart t o =
     (i q : ℕ) → i ≤ length t.word → Reached (StartsAt o i) (Step t) q → bit_at t.specials (q % 128) ≡ true
     → (get_or t.firsts (q % 128 / 2) 0 + block_length (length t.word) ≤ o.first)
@@ -34,7 +34,7 @@ visits marks n k = sum_below (λ (i : ℕ). tally_below (128 * (n + 1)) (bit_at 
 -- b is the table with the target's block filled, from the starts below stop, which are all or as many as the limit allows: the marks of
 -- each walk are the places reached, its row says which spans obey, and no other bit of the block is set; c is count and as many more as there
 -- are places, or the limit where it is spent. The lent numbers are 64-bit ones, so their bits determine them.
-pub record Filled (t : Automaton) (o : Target) (count limit : ℕ) (b : List ℕ) (c : ℕ) (spent : Bool) : Type 0 where
+pub record Filled (t : Course) (o : Target) (count limit : ℕ) (b : List ℕ) (c : ℕ) (spent : Bool) : Type 0 where
   pub stop : ℕ
   pub marks : ℕ → List ℕ
   pub few : stop ≤ length t.word + 1

@@ -4,14 +4,14 @@ use Rattle.bits.specs.Bit.{bit_at}
 use Rattle.bits.specs.Runs.{tally_below, Adds}
 use Rattle.moves.specs.Reached.{Reached}
 use Rattle.table.specs.Layout.{RowSpan}
-use Rattle.marks.specs.declared.Target.{Target}
+use Rattle.marks.specs.declared.target.Target.{Target}
 use Rattle.marks.specs.Marks.{StartsAt}
 use Rattle.marks.specs.Rows.{row_of}
-use Rattle.walk.specs.Automaton.{Automaton, Step}
+use Rattle.walk.specs.Course.{Course, Step}
 use Rattle.walk.specs.Filled.{block_of}
 
 -- the walk of one start: its marks are the places reached, each of which was counted, and its row's spans were added to the table
-pub record Started (t : Automaton) (o : Target) (i count limit : ℕ) (b : List ℕ) (c : ℕ) (spent : Bool) : Type 0 where
+pub record Started (t : Course) (o : Target) (i count limit : ℕ) (b : List ℕ) (c : ℕ) (spent : Bool) : Type 0 where
   pub marks : List ℕ
   pub only : (q : ℕ) → bit_at marks q ≡ true → Reached (StartsAt o i) (Step t) q
   pub all : spent ≡ false → (q : ℕ) → Reached (StartsAt o i) (Step t) q → bit_at marks q ≡ true

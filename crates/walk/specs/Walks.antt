@@ -1,28 +1,14 @@
 -- One walk, number by number of used events. Assumes nothing.
-use Rattle.std.specs.Prelude.{ℕ, ◌+◌, ◌-◌, ◌*◌, ◌/◌, ◌%◌, ◌≤◌, ◌<◌, ◌≡◌, ◌⊎◌, List, Bool, true, false, length}
+use Rattle.std.specs.Prelude.{ℕ, ◌+◌, ◌-◌, ◌*◌, ◌/◌, ◌%◌, ◌≤◌, ◌<◌, ◌≡◌, ◌⊎◌, List, Bool, true, false, length, Option, Some, None}
 use Rattle.bits.specs.Bit.{bit_at}
 use Rattle.bits.specs.Runs.{tally_below}
 use Rattle.moves.specs.Reached.{Reached}
 use Rattle.moves.specs.Moves.{FreeMove}
 use Rattle.levels.specs.Sets.{Among}
 use Rattle.levels.specs.Exits.{has_span, SpanHere}
-use Rattle.walk.specs.Automaton.{Automaton, Step}
-
--- ---- cached closures
-
--- a state of slot j of the cache that leads to t
-pub record Remembers (closed cache : List ℕ) (j t : ℕ) : Type 0 where
-  pub by : ℕ
-  pub small : by < 128
-  pub there : bit_at cache (256 * j + by) ≡ true
-  pub leads : bit_at closed (128 * by + t) ≡ true
-
--- the cache has a slot for each of 256 numbers, of four numbers: two for a set of states, and two for all that free moves lead to from it
-pub record Remembered (closed cache : List ℕ) : Type 0 where
-  pub long : length cache ≡ 1024
-  pub all : (j s t : ℕ) → j < 256 → s < 128 → t < 128 → bit_at cache (256 * j + s) ≡ true → bit_at closed (128 * s + t) ≡ true
-      → bit_at cache (256 * j + 128 + t) ≡ true
-  pub only : (j t : ℕ) → j < 256 → t < 128 → bit_at cache (256 * j + 128 + t) ≡ true → Remembers closed cache j t
+use Rattle.marks.specs.declared.counting.Work.{Work}
+use Rattle.walk.specs.declared.walks.WalkEnd.{WalkEnd}
+use Rattle.walk.specs.Course.{Course, Step}
 
 -- ---- the states of one number
 
@@ -36,7 +22,7 @@ abbrev pub MarkedOrDue : (marks : List ℕ) (X : ℕ → Bool) (j p : ℕ) → T
 MarkedOrDue a X j p = (bit_at a p ≡ true) ⊎ ((p / 128 ≡ j) × Pending X p)
 
 -- q is an exit to come of a special node whose entry is in the set, at number j
-pub record SpanExit (t : Automaton) (j : ℕ) (set : List ℕ) (q : ℕ) : Type 0 where
+pub record SpanExit (t : Course) (j : ℕ) (set : List ℕ) (q : ℕ) : Type 0 where
   pub small : q < 16384
   pub entry : bit_at set (2 * (q / 256)) ≡ true
   pub special : bit_at t.specials (2 * (q / 256)) ≡ true
@@ -49,7 +35,7 @@ pub record Joins (j n : ℕ) (X : ℕ → Bool) (P : ℕ → Type 0) (Y : ℕ �
   pub only : (q : ℕ) → q < 16384 → Y q ≡ true → (X q ≡ true) ⊎ P q
 
 -- e has the states that are reached at number j from the marks a and the exits to come X, which are Y then; u are the open nodes' entries
-pub record LevelSet (t : Automaton) (j : ℕ) (a : List ℕ) (X : ℕ → Bool) (e : List ℕ) (Y : ℕ → Bool) (u : List ℕ) : Type 0 where
+pub record LevelSet (t : Course) (j : ℕ) (a : List ℕ) (X : ℕ → Bool) (e : List ℕ) (Y : ℕ → Bool) (u : List ℕ) : Type 0 where
   pub marked : (s : ℕ) → s < 128 → bit_at a (128 * j + s) ≡ true → bit_at e s ≡ true
   pub waiting : (p : ℕ) → p / 128 ≡ j → Pending X p → bit_at e (p % 128) ≡ true
   pub only : (s : ℕ) → s < 128 → bit_at e s ≡ true → Reached (MarkedOrDue a X j) (Step t) (128 * j + s)
@@ -60,9 +46,14 @@ pub record LevelSet (t : Automaton) (j : ℕ) (a : List ℕ) (X : ℕ → Bool) 
 
 -- ---- what a walk leaves
 
+-- the work after a walk, if the limit is not spent
+abbrev pub work_of : Option WalkEnd → Option Work
+work_of None = None
+work_of (Some e) = Some e.work
+
 -- b has marks of places that are reached from the marks of a, and c is count and as many more. That is all of them, or, where they would be
 -- more than the limit, so many that the limit is passed, and c is the limit.
-pub record Walked (t : Automaton) (count limit : ℕ) (a b : List ℕ) (c : ℕ) (spent : Bool) : Type 0 where
+pub record Walked (t : Course) (count limit : ℕ) (a b : List ℕ) (c : ℕ) (spent : Bool) : Type 0 where
   pub only : (q : ℕ) → bit_at b q ≡ true → Reached (λ (p : ℕ). bit_at a p ≡ true) (Step t) q
   pub all : spent ≡ false → (q : ℕ) → Reached (λ (p : ℕ). bit_at a p ≡ true) (Step t) q → bit_at b q ≡ true
   pub counted : spent ≡ false → c ≡ count + tally_below (128 * (length t.word + 1)) (bit_at b)

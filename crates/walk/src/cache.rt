@@ -1,30 +1,45 @@
-// Cached closures: a slot of the cache is four numbers, two of a set of states and two of all that free moves lead to from it.
-ghost use Rattle.std.specs.Prelude.{◌≡◌, ◌<◌, length};
-ghost use Rattle.levels.specs.AutomatonParts.{closed_part};
-ghost use Rattle.levels.specs.Sets.{Reflexive, Transitive, AllLed};
-ghost use Rattle.walk.specs.Walks.{Remembered};
+// Cached closures: the sets that walks of earlier starts came to, with what free moves lead to from them.
+ghost use Rattle.std.specs.Prelude.{◌≡◌, ℕ, List, ◌<◌, length};
+ghost use Rattle.levels.specs.Sets.{AllLed};
+ghost use Rattle.walk.specs.Caches.{Remembered};
 
+use levels::States;
+use levels::automaton::Automaton;
+
+// A set of states, and all that free moves lead to from it.
+#[derive(Clone, Copy)]
+pub struct Slot {
+    pub set: States,
+    pub closure: States,
+}
+
+// A slot for each number of used events.
+pub type Cache = [Slot; 256];
+
+// A cache of empty sets.
+pub fn empty_cache() -> Cache
+    ensures { (closed : List ℕ) → Remembered closed result }
+{
+    [Slot {
+        set: [0; 2],
+        closure: [0; 2],
+    }; 256]
+}
+
+// What the cache remembers is of an automaton that it does not hold, so that clauses say it, and no ghost field.
 // The states that free moves lead to from those of a set at number j: known from an earlier start, as walks that come to a number often agree
 // there, or worked out and kept in the number's slot.
-pub fn cached_closure(automaton: &[u64], set: &[u64], cache: &mut [u64], j: usize) -> [u64; 2]
-    requires automaton_len { (length automaton.now ≡ 834) × (length set.now ≡ 2) × (j < 256) }
-    requires reflexive { Reflexive (closed_part automaton.now) }
-    requires transitive { Transitive (closed_part automaton.now) }
-    requires remembered { Remembered (closed_part automaton.now) cache.old }
-    ensures states { AllLed (closed_part automaton.now) set.now result }
-    ensures cache { Remembered (closed_part automaton.now) cache.new }
+pub fn cached_closure(automaton: &Automaton, set: &States, cache: &mut Cache, j: usize) -> States
+    requires j_bound { j < 256 }
+    requires remembered { Remembered automaton.now.closed cache.old }
+    ensures states { AllLed automaton.now.closed set.now result }
+    ensures cache { Remembered automaton.now.closed cache.new }
 {
-    let at = 4 * j;
-    if cache[at] == set[0] && cache[at + 1] == set[1] {
-        let mut found = [0u64; 2];
-        found[0] = cache[at + 2];
-        found[1] = cache[at + 3];
-        return found;
+    let slot = cache[j];
+    if slot.set == *set {
+        return slot.closure;
     }
-    let closure = levels::closure(automaton, set);
-    cache[at] = set[0];
-    cache[at + 1] = set[1];
-    cache[at + 2] = closure[0];
-    cache[at + 3] = closure[1];
+    let closure = automaton.closure(set);
+    cache[j] = Slot { set: *set, closure };
     closure
 }

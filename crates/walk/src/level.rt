@@ -1,49 +1,40 @@
 // One number of used events: all that is reached there.
 ghost use Rattle.std.specs.Prelude.{◌≡◌, ◌+◌, ◌≤◌, length};
-ghost use Rattle.levels.specs.AutomatonParts.{closed_part, special_part};
 ghost use Rattle.levels.specs.Sets.{Among};
 ghost use Rattle.levels.specs.Exits.{to_come, Full};
-ghost use Rattle.walk.specs.Automaton.{automaton_of, Ready};
-ghost use Rattle.walk.specs.Walks.{Remembered, LevelSet};
+ghost use Rattle.walk.specs.Course.{course_of, HasRoom};
+ghost use Rattle.walk.specs.Caches.{Remembered};
+ghost use Rattle.walk.specs.Walks.{LevelSet};
 
-use crate::cache::cached_closure;
-use marks::add_marked;
+use crate::cache::{Cache, cached_closure};
+use levels::States;
+use levels::automaton::Automaton;
+use levels::open::Open;
+use marks::Marks;
 
 // The states that are reached at number j: from those marked there, and from the exits that are due.
 pub fn level(
-    automaton: &[u64],
+    automaton: &Automaton,
     word: &[u8],
     table: &[u64],
-    marks: &[u64],
-    cache: &mut [u64],
-    exits: &mut [u64],
-    opened: &mut [u64],
-    full: &mut [u64],
+    marks: &Marks,
+    cache: &mut Cache,
+    held: &mut Open,
     j: usize,
-) -> [u64; 2]
-    requires ready { Ready (automaton_of automaton.now word.now table.now) }
-    requires automaton_len { (length automaton.now ≡ 834) × (length marks.now ≡ 512) × (length exits.old ≡ 256)
-        × (length opened.old ≡ 2) × (j ≤ length word.now) }
-    requires among { Among opened.old (special_part automaton.now) }
-    requires full_2 { Full exits.old opened.old full.old j (length word.now) }
-    requires remembered { Remembered (closed_part automaton.now) cache.old }
+) -> States
+    requires room { HasRoom automaton.now word.now table.now }
+    requires j_bound { j ≤ length word.now }
+    requires among { Among held.old.opened automaton.now.specials }
+    requires full_2 { Full held.old.exits held.old.opened held.old.full j (length word.now) }
+    requires remembered { Remembered automaton.now.closed cache.old }
     ensures states { LevelSet
-        (automaton_of automaton.now word.now table.now) j marks.now
-        (to_come exits.old opened.old) result (to_come exits.new opened.new) opened.new }
-    ensures full { Full exits.new opened.new full.new (j + 1) (length word.now) }
-    ensures cache { Remembered (closed_part automaton.now) cache.new }
+        (course_of automaton.now word.now table.now) j marks.now.places
+        (to_come held.old.exits held.old.opened) result (to_come held.new.exits held.new.opened) held.new.opened }
+    ensures full { Full held.new.exits held.new.opened held.new.full (j + 1) (length word.now) }
+    ensures cache { Remembered automaton.now.closed cache.new }
 {
-    let mut begun = levels::due_exits(exits, opened, full, j);
-    add_marked(marks, j, &mut begun);
+    let mut begun = held.due_exits(j);
+    marks.add_to(j, &mut begun);
     let closure = cached_closure(automaton, &begun, cache, j);
-    levels::saturate(
-        automaton,
-        table,
-        &closure,
-        exits,
-        opened,
-        full,
-        j,
-        word.len(),
-    )
+    automaton.saturate(table, &closure, held, j, word.len())
 }

@@ -6,58 +6,50 @@ mod level;
 mod starts;
 mod walks;
 
-ghost use Rattle.std.specs.Prelude.{◌≡◌, ◌<◌, ◌≤◌, length};
+ghost use Rattle.std.specs.Prelude.{◌≡◌, ◌<◌, ◌≤◌, length, is_none};
+ghost use Rattle.marks.specs.Works.{count_of, HasLimit};
 ghost use Rattle.table.specs.Layout.{Lies};
-ghost use Rattle.walk.specs.Automaton.{automaton_of, Ready};
+ghost use Rattle.walk.specs.Course.{course_of, HasRoom};
 ghost use Rattle.walk.specs.Filled.{block_of, Apart, Filled};
 
+use crate::cache::empty_cache;
 use crate::starts::fill_start;
+use levels::automaton::Automaton;
+use levels::open::Open;
+use marks::counting::Work;
 use marks::ends::initial_states;
-use marks::{Tally, Target};
+use marks::target::Target;
 use table::Block;
 
-// Walks from each start, and fills the target's block.
+// Walks from each start, and fills the target's block. Automaton, word and table are no struct: the table changes while the other two are read,
+// and what is asked of the three is of all together.
 pub fn fill_block(
-    automaton: &[u64],
+    automaton: &Automaton,
     word: &[u8],
     table: &mut [u64],
     target: Target,
-    count: u64,
-    limit: u64,
-) -> Tally
-    requires ready { Ready (automaton_of automaton.now word.now table.old) }
-    requires lies { Lies (block_of (automaton_of automaton.now word.now table.old) target) (length table.old) }
-    requires automaton_len { (length automaton.now ≡ 834) × (0 < target.left) × (target.left < 128)
-        × (0 < target.right) × (target.right < 128) × (count ≤ limit) }
-    requires apart { Apart (automaton_of automaton.now word.now table.old) target }
-    ensures { Filled (automaton_of automaton.now word.now table.old)
-        target count limit table.new result.count result.spent }
+    work: Work,
+) -> Option<Work>
+    requires room { HasRoom automaton.now word.now table.old }
+    requires lies { Lies (block_of (course_of automaton.now word.now table.old) target) (length table.old) }
+    requires apart { Apart (course_of automaton.now word.now table.old) target }
+    ensures filled { Filled (course_of automaton.now word.now table.old)
+        target work.count work.limit table.new (count_of work.limit result) (is_none result) }
+    ensures limit { HasLimit work.limit result }
 {
-    let first = target.first;
-    table::clear_block(
-        table,
-        Block {
-            first: first,
-            n: word.len(),
-        },
-    );
+    let block = Block {
+        first: target.first,
+        n: word.len(),
+    };
+    block.clear(table);
     let initial = initial_states(automaton, target);
-    let mut cache = [0u64; 1024];
-    let mut exits = [0u64; 256];
-    let mut c = count;
-    let mut i = 0;
-    while i <= word.len() {
-        let t = fill_start(
-            automaton, word, table, &mut cache, &mut exits, &initial, target, i, c, limit,
-        );
-        if t.spent {
-            return t;
-        }
-        c = t.count;
-        i += 1;
+    let mut cache = empty_cache();
+    let mut held = Open::new();
+    let mut counted = work;
+    for i in 0..=word.len() {
+        counted = fill_start(
+            automaton, word, table, &mut cache, &mut held, &initial, target, i, counted,
+        )?;
     }
-    Tally {
-        count: c,
-        spent: false,
-    }
+    Some(counted)
 }

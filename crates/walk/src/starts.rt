@@ -1,95 +1,80 @@
 // The row of one start.
-ghost use Rattle.std.specs.Prelude.{◌≡◌, ◌<◌, ◌≤◌, length};
-ghost use Rattle.levels.specs.AutomatonParts.{closed_part};
+ghost use Rattle.std.specs.Prelude.{◌≡◌, ◌<◌, ◌≤◌, length, is_none};
 ghost use Rattle.table.specs.Layout.{Lies};
-ghost use Rattle.walk.specs.Automaton.{automaton_of, Ready};
-ghost use Rattle.walk.specs.Filled.{block_of};
-ghost use Rattle.walk.specs.Walks.{Remembered};
 ghost use Rattle.marks.specs.Ends.{Initial};
+ghost use Rattle.marks.specs.Works.{count_of, HasLimit};
+ghost use Rattle.walk.specs.Course.{course_of, HasRoom};
+ghost use Rattle.walk.specs.Caches.{Remembered};
+ghost use Rattle.walk.specs.Filled.{block_of};
 ghost use Rattle.walk.specs.Starts.{Started};
 
+use crate::cache::Cache;
 use crate::walks::walk;
+use levels::States;
+use levels::automaton::Automaton;
+use levels::open::Open;
+use marks::Marks;
+use marks::counting::Work;
 use marks::ends::{ends_there, fill_ended};
-use marks::rows::row_of;
-use marks::{Tally, Target, mark_start};
+use marks::target::Target;
 use table::Block;
 
 // Walks from start i with clear marks, and adds its row to the target's block.
 fn fill_walked(
-    automaton: &[u64],
+    automaton: &Automaton,
     word: &[u8],
     table: &mut [u64],
-    cache: &mut [u64],
-    exits: &mut [u64],
+    cache: &mut Cache,
+    held: &mut Open,
     target: Target,
     i: usize,
-    count: u64,
-    limit: u64,
-) -> Tally
-    requires ready { Ready (automaton_of automaton.now word.now table.old) }
-    requires lies { Lies (block_of (automaton_of automaton.now word.now table.old) target) (length table.old) }
-    requires automaton_len { (length automaton.now ≡ 834) × (length exits.old ≡ 256) × (i ≤ length word.now) × (count ≤ limit) }
-    requires left_nonzero { (0 < target.left) × (target.left < 128) × (0 < target.right) × (target.right < 128) }
-    requires remembered { Remembered (closed_part automaton.now) cache.old }
-    ensures started { Started (automaton_of automaton.now word.now table.old)
-        target i count limit table.new result.count result.spent }
-    ensures cache { Remembered (closed_part automaton.now) cache.new }
+    work: Work,
+) -> Option<Work>
+    requires room { HasRoom automaton.now word.now table.old }
+    requires lies { Lies (block_of (course_of automaton.now word.now table.old) target) (length table.old) }
+    requires i_bound { i ≤ length word.now }
+    requires remembered { Remembered automaton.now.closed cache.old }
+    ensures started { Started (course_of automaton.now word.now table.old)
+        target i work.count work.limit table.new (count_of work.limit result) (is_none result) }
+    ensures limit { HasLimit work.limit result }
+    ensures cache { Remembered automaton.now.closed cache.new }
 {
-    let mut marks = [0u64; 512];
-    mark_start(&mut marks, target, i);
-    let t = walk(
-        automaton, word, table, &mut marks, cache, exits, i, count, limit,
-    );
-    if t.spent {
-        return Tally {
-            count: t.count,
-            spent: true,
-        };
-    }
-    let row = row_of(&marks, target, i, t.end, word.len());
-    let first = target.first;
-    table::add_row(
-        table,
-        Block {
-            first: first,
-            n: word.len(),
-        },
-        i,
-        &row,
-    );
-    Tally {
-        count: t.count,
-        spent: false,
-    }
+    let mut marks = Marks::new();
+    marks.mark_start(target, i);
+    let walked = walk(automaton, word, table, &mut marks, cache, held, i, work)?;
+    let row = marks.row_of(target, i, walked.end, word.len());
+    let block = Block {
+        first: target.first,
+        n: word.len(),
+    };
+    block.add_row(table, i, &row);
+    Some(walked.work)
 }
 
 // Fills the row of start i: by a walk, or, where that would go no further than the initial states, from these alone.
 pub fn fill_start(
-    automaton: &[u64],
+    automaton: &Automaton,
     word: &[u8],
     table: &mut [u64],
-    cache: &mut [u64],
-    exits: &mut [u64],
-    initial: &[u64],
+    cache: &mut Cache,
+    held: &mut Open,
+    initial: &States,
     target: Target,
     i: usize,
-    count: u64,
-    limit: u64,
-) -> Tally
-    requires ready { Ready (automaton_of automaton.now word.now table.old) }
-    requires lies { Lies (block_of (automaton_of automaton.now word.now table.old) target) (length table.old) }
-    requires automaton_len { (length automaton.now ≡ 834) × (length exits.old ≡ 256) × (i ≤ length word.now) × (count ≤ limit) }
-    requires left_nonzero { (0 < target.left) × (target.left < 128) × (0 < target.right) × (target.right < 128) }
-    requires remembered { Remembered (closed_part automaton.now) cache.old }
-    requires initial_len { (length initial.now ≡ 2) × Initial (closed_part automaton.now) target initial.now }
-    ensures started { Started (automaton_of automaton.now word.now table.old)
-        target i count limit table.new result.count result.spent }
-    ensures cache { Remembered (closed_part automaton.now) cache.new }
+    work: Work,
+) -> Option<Work>
+    requires room { HasRoom automaton.now word.now table.old }
+    requires lies { Lies (block_of (course_of automaton.now word.now table.old) target) (length table.old) }
+    requires i_bound { i ≤ length word.now }
+    requires remembered { Remembered automaton.now.closed cache.old }
+    requires initial { Initial automaton.now.closed target initial.now }
+    ensures started { Started (course_of automaton.now word.now table.old)
+        target i work.count work.limit table.new (count_of work.limit result) (is_none result) }
+    ensures limit { HasLimit work.limit result }
+    ensures cache { Remembered automaton.now.closed cache.new }
 {
     if ends_there(automaton, word, initial, target, i) {
-        return fill_ended(table, initial, target, i, word.len(), count, limit);
+        return fill_ended(table, initial, target, i, word.len(), work);
     }
-    fill_walked(
-        automaton, word, table, cache, exits, target, i, count, limit,
-    )
+    fill_walked(automaton, word, table, cache, held, target, i, work)
 }

@@ -1,12 +1,12 @@
 -- What each call of the C interface returns and leaves in the buffers lent to it, computed. Assumes nothing.
 -- That nothing else has `RuleExport`, `FileExport`, `DayExport`, `JudgeExport`, `JudgeFileExport`, `JobExport`, `RewriteExport`, `MergeExport`
 -- is `rule_is`, `file_is`, `day_is`, `judge_is`, `judge_file_is`, `job_is`, `rewrite_is`, `merge_is` in proofs/Determined.
-use Rattle.std.specs.Prelude.{ℕ, ◌≤◌, ◌<◌, ◌≡◌, cond, ◌||◌, List, [], ◌∷◌, ltb, length}
+use Rattle.std.specs.Prelude.{ℕ, ◌≡◌, cond, ◌||◌, List, [], ◌∷◌, ◌++◌, Result, Ok, Err, ltb, length}
+use Rattle.verdict.specs.Verdicts.{accepted}
 use Rattle.verdict.specs.declared.Verdict.{Verdict}
+use Rattle.wuzlevor.specs.Told.{over}
 use Rattle.rule.specs.RuleComputed.{rule_answer}
 use Rattle.rule_file.specs.FileComputed.{file_answer}
-use Rattle.rule_line.specs.Coding.{line_at}
-use Rattle.rule_line.specs.declared.LineNodes.{LineNodes}
 use Rattle.day.specs.DayComputed.{day_answer}
 use Rattle.judge.specs.JudgeComputed.{judge_answer}
 use Rattle.judge.specs.JudgeFileComputed.{judge_file_answer}
@@ -60,6 +60,7 @@ merge_days first second letters seconds answer =
 abbrev pub verdict_row : Verdict → List ℕ
 verdict_row v = v.number ∷ v.place ∷ v.found ∷ v.count ∷ []
 
--- each of the first r lines has 64 records, and its m is no more
-abbrev pub LinesFit : ℕ → List LineNodes → Type 0
-LinesFit r ls = (i : ℕ) → i < r → ((line_at ls i).m ≤ 64) × (length (line_at ls i).nodes ≡ 64)
+-- the answer of a call that reads, with how much it has read, or its refusal, of which `tells` says what it says
+abbrev pub ReadWritten : {E : Type 0} → (E → Verdict → Type 0) → Result ℕ E → List ℕ → ℕ → List ℕ → Type 0
+ReadWritten tells (Ok n) old number new = (number ≡ 0) × (new ≡ over (verdict_row (accepted 0 0) ++ n ∷ []) old)
+ReadWritten tells (Err e) old number new = (v : Verdict) × tells e v × (number ≡ v.number) × (new ≡ over (verdict_row v ++ 0 ∷ []) old)

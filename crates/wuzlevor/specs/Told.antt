@@ -4,7 +4,7 @@ use Rattle.expression.specs.KindNumber.{kind_number}
 use Rattle.expression.specs.declared.Node.{Node}
 use Rattle.rule.specs.RuleAnswer.{RuleAnswer}
 use Rattle.rule_file.specs.FileAnswer.{FileAnswer}
-use Rattle.rule_line.specs.declared.LineNodes.{LineNodes}
+use Rattle.rule_line.specs.Lines.{LineNodes}
 use Rattle.day.specs.DayAnswer.{DayAnswer}
 use Rattle.judge.specs.JudgeAnswer.{JudgeAnswer}
 use Rattle.job.specs.JobAnswer.{JobAnswer}

@@ -45,15 +45,19 @@ pub extern "C" fn wuz_read_rule(text: &[u8], answer: &mut [u64], nodes: &mut [u6
     if answer.len() < RULE_ANSWER || nodes.len() < NODES {
         return UNANSWERED;
     }
-    let reading = rule::read(text);
-    let outcome = reading.outcome;
-    let records = reading.nodes;
-    let said = rule::outcome_verdict(outcome);
-    let m = rule::node_count(outcome);
-    let k = rule::special_count(outcome);
-    row::write_six(answer, said, m as u64, k as u64);
-    row::write_nodes(nodes, records, m);
-    said.number
+    match rule::read(text) {
+        Ok(records) => {
+            let said = Verdict::acceptance(0, 0);
+            row::write_row(answer, said, &[records.m as u64, records.k as u64]);
+            row::write_nodes(nodes, &records.nodes[..records.m]);
+            said.number
+        }
+        Err(refusal) => {
+            let said = Verdict::from(refusal);
+            row::write_row(answer, said, &[0, 0]);
+            said.number
+        }
+    }
 }
 
 // Reads a rule file.
@@ -69,24 +73,22 @@ pub extern "C" fn wuz_read_rule_file(
     ensures meaning { FileExport file.now answer.old lines.old nodes.old
         (result, answer.new, lines.new, nodes.new) }
 {
-    if answer.len() < FILE_ANSWER {
+    if answer.len() < FILE_ANSWER || lines.len() < LINES || nodes.len() < FILE_NODES {
         return UNANSWERED;
     }
-    if lines.len() < LINES {
-        return UNANSWERED;
+    match rule_file::read(file) {
+        Ok(read) => {
+            row::write_row(answer, Verdict::acceptance(0, 0), &[read.count as u64]);
+            row::write_lines(lines, read.records());
+            row::write_line_nodes(nodes, read.records());
+            0
+        }
+        Err(refused) => {
+            let said = Verdict::from(refused);
+            row::write_row(answer, said, &[0]);
+            said.number
+        }
     }
-    if nodes.len() < FILE_NODES {
-        return UNANSWERED;
-    }
-    let reading = rule_file::read(file);
-    let outcome = reading.outcome;
-    let read = reading.lines;
-    let said = rule_file::outcome_verdict(outcome);
-    let r = rule_file::line_count(outcome);
-    row::write_five(answer, said, r as u64);
-    row::write_lines(lines, read, r);
-    row::write_line_nodes(nodes, read, r);
-    said.number
 }
 
 // Reads a day file.
@@ -105,11 +107,7 @@ pub extern "C" fn wuz_read_day(
     if answer.len() < DAY_ANSWER {
         return UNANSWERED;
     }
-    let outcome = day::read(file, letters, seconds);
-    let said = day::outcome_verdict(outcome);
-    let n = day::event_count(outcome);
-    row::write_five(answer, said, n as u64);
-    said.number
+    row::write_read(answer, day::read(file, letters, seconds))
 }
 
 // Judges the spans of a word by a rule.
@@ -129,9 +127,8 @@ pub extern "C" fn wuz_judge(
     if answer.len() < JUDGE_ANSWER {
         return UNANSWERED;
     }
-    let outcome = judge::judge(rule, word, limit, table);
-    let said = judge::outcome_verdict(outcome);
-    row::write_four(answer, said);
+    let said = Verdict::from(judge::judge(rule, word, limit, table));
+    row::write_row(answer, said, &[]);
     said.number
 }
 
@@ -152,9 +149,8 @@ pub extern "C" fn wuz_judge_rule_file(
     if answer.len() < JUDGE_ANSWER {
         return UNANSWERED;
     }
-    let outcome = judge::file::judge_file(file, word, limit, table);
-    let said = judge::file::file_outcome_verdict(outcome);
-    row::write_four(answer, said);
+    let said = Verdict::from(judge::file::judge_file(file, word, limit, table));
+    row::write_row(answer, said, &[]);
     said.number
 }
 
@@ -169,15 +165,18 @@ pub extern "C" fn wuz_run_job(job: &[u8], out: &mut [u8], answer: &mut [u64]) ->
     if answer.len() < JOB_ANSWER {
         return UNANSWERED;
     }
-    let told = job::run(job, out);
-    let said = Verdict {
-        number: told.number,
-        place: told.place,
-        found: told.found,
-        count: told.count,
-    };
-    row::write_five(answer, said, told.n as u64);
-    told.number
+    match job::run(job, out) {
+        Ok(accepted) => {
+            let said = Verdict::acceptance(accepted.found, accepted.count);
+            row::write_row(answer, said, &[accepted.n as u64]);
+            0
+        }
+        Err(refusal) => {
+            let said = Verdict::from(refusal);
+            row::write_row(answer, said, &[0]);
+            said.number
+        }
+    }
 }
 
 // Rewrites a stored rule: each run of stars becomes one star.
@@ -191,11 +190,7 @@ pub extern "C" fn wuz_rewrite_rule(text: &[u8], out: &mut [u8], answer: &mut [u6
     if answer.len() < REWRITE_ANSWER {
         return UNANSWERED;
     }
-    let outcome = rewrite::rewrite(text, out);
-    let said = rewrite::outcome_verdict(outcome);
-    let length = rewrite::text_length(outcome);
-    row::write_five(answer, said, length as u64);
-    said.number
+    row::write_read(answer, rewrite::rewrite(text, out))
 }
 
 // Merges two day files.
@@ -215,9 +210,5 @@ pub extern "C" fn wuz_merge_days(
     if answer.len() < MERGE_ANSWER {
         return UNANSWERED;
     }
-    let outcome = merge::merge(first, second, letters, seconds);
-    let said = merge::outcome_verdict(outcome);
-    let events = merge::event_count(outcome);
-    row::write_five(answer, said, events as u64);
-    said.number
+    row::write_read(answer, merge::merge(first, second, letters, seconds))
 }

@@ -1,9 +1,7 @@
--- `merge` joins, as a list and bit by bit. Assumes nothing.
-use mathlib.Core.Path.{refl}
+-- `merge` joins bit by bit. Assumes nothing.
 use native.Mathlib.Omega.{arith}
 use Rattle.bits.proofs.Laws.{merge_law}
 use Rattle.bits.proofs.merge.Goals as goal
 
-pub returns : goal.returns
-returns c =
-    record { value = refl; bits = merge_law _ _ _ (omega arith) }
+pub returns-clause-bits : goal.returns-clause-bits
+returns-clause-bits c = merge_law _ _ _ (omega arith)

@@ -8,9 +8,9 @@ use Rattle.checker.proofs.write_text.Goals as goal
 pub loop-done-preserved : goal.loop-done-preserved
 loop-done-preserved g c =
     let done = c.loop-done.done in
-    let n = c.in-Bytes.n in
+    let n = c.in-Some.n in
     let xs = c.args.text.now in
     let before = c.loop-done.invariant in
-    let fits = c.in-Bytes.ensures.within in
+    let fits = c.in-Some.ensures.within in
     let most = length-take (length xs - done) (drop done xs) in
-    (omega arith, subst (Appends _ _) (written_behind done n xs (omega arith)) (Appends-trans _ _ _ _ _ before.1 c.in-Bytes.ensures.put))
+    (omega arith, subst (Appends _ _) (written_behind done n xs (omega arith)) (Appends-trans _ _ _ _ _ before.1 c.in-Some.ensures.put))

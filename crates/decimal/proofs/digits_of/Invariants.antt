@@ -1,5 +1,4 @@
 -- `digits_of` writes the numeral in front of zeros, a digit for each power of ten down from the first. Assumes nothing.
-use mathlib.Core.Path.{◌≡◌}
 use Prim.Native.Nat.{suc, ◌-◌, ◌≤◌, ◌<◌}
 use Rattle.decimal.specs.Powers.{Powers}
 use Rattle.decimal.proofs.Spelling.{Spelt}
@@ -7,8 +6,4 @@ use Rattle.decimal.proofs.digits_of.Given as goal
 
 abbrev pub invariant-loop-i : goal.invariant-loop-i
 invariant-loop-i l =
-    Powers l.powers × (l.i ≤ l.last) × (l.last < 20) × (l.digits.len ≡ l.len) × Spelt l.x (suc (l.last - l.i)) l.digits.bytes l.i l.rest
-
-abbrev pub decreases-loop-i : goal.decreases-loop-i
-decreases-loop-i l =
-    l.last - l.i
+    Powers l.powers × (l.i ≤ l.last) × (l.last < 20) × Spelt l.x (suc (l.last - l.i)) l.bytes l.i l.rest

@@ -1,19 +1,17 @@
 -- `refusal` writes its line over zeros. Assumes nothing.
-use mathlib.Core.Path.{ap, ◌∙◌}
-use mathlib.Core.List.{◌++◌}
-use native.Mathlib.Omega.{arith}
-use lib.ListN.{length}
+use Rattle.std.proofs.Common.{◌∙◌, ap, ◌++◌, length, rules, arith}
 use Rattle.listing.specs.Lines.{refusal_line}
-use Rattle.listing.proofs.WrittenLaws.{written_front, drop_zeros, line_short}
+use Rattle.listing.proofs.WrittenLaws.{line_short, written_front, drop_zeros}
 use Rattle.listing.proofs.refusal.Goals as goal
 
-pub put_line-len-requires : goal.put_line-len-requires
-put_line-len-requires c =
-    line_short 88 _ _
+pub put_line-requires : goal.put_line-requires
+put_line-requires c = line_short 88 _ _
+
+pub invariant_of-result : goal.invariant_of-result
+invariant_of-result c = record { within = omega (arith, c.line_length-len.ensures 88, line_short 88 c.args.number c.args.place) }
 
 pub returns : goal.returns
 returns c =
-    let s = c.args in
-    let w = c.put_line-len.ensures in
-    let l = refusal_line s.number s.place in
-    (written_front w (line_short 88 _ _) ∙ ap (l ++◌) (drop_zeros (length l) 44), omega (arith, w.upto))
+    let w = c.put_line.ensures.written in
+    let l = refusal_line c.args.number c.args.place in
+    (search rules ∙ written_front w (line_short 88 _ _) ∙ ap (l ++◌) (drop_zeros (length l) 44), c.line_length-len.ensures 88)

@@ -2,6 +2,8 @@
 use Prim.Native.Nat.{◌<◌}
 use native.Mathlib.Omega.{arith}
 use lib.ListN.{length}
+use Rattle.judge.proofs.Told.{told_outcome}
+use Rattle.rule.specs.RuleAnswer.{refusal_verdict}
 use Rattle.wuzlevor.proofs.ExportLaws.{judge_returns, judge_writes}
 use Rattle.wuzlevor.proofs.wuz_judge.Goals as goal
 
@@ -13,6 +15,6 @@ returns-then-answer-lt-JUDGE_ANSWER c =
 
 pub returns : goal.returns
 returns c =
-    let both = judge_writes c.judge-outcome.result c.if-answer-lt-JUDGE_ANSWER.false c.judge-outcome.ensures.value c.judge-outcome.ensures.meaning c.outcome_verdict-said.ensures
-    c.write_four.ensures in
+    let both = judge_writes c.judge.result c.if-answer-lt-JUDGE_ANSWER.false c.judge.ensures.value c.judge.ensures.meaning (told_outcome refusal_verdict c.judge.result c.from-said.ensures)
+    c.write_row.ensures in
     record { value = both.0; meaning = both.1 }

@@ -13,6 +13,5 @@ returns-then-answer-lt-MERGE_ANSWER c =
 
 pub returns : goal.returns
 returns c =
-    let both = merge_writes c.merge-outcome.result c.if-answer-lt-MERGE_ANSWER.false c.merge-outcome.ensures.value c.merge-outcome.ensures.meaning
-    c.outcome_verdict-said.ensures c.event_count-events.ensures c.write_five.ensures in
+    let both = merge_writes c.merge.result c.if-answer-lt-MERGE_ANSWER.false c.merge.ensures.value c.merge.ensures.meaning c.write_read.ensures in
     record { value = both.0; meaning = both.1 }

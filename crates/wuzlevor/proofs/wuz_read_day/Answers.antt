@@ -13,6 +13,5 @@ returns-then-answer-lt-DAY_ANSWER c =
 
 pub returns : goal.returns
 returns c =
-    let both = day_writes c.read-outcome.result c.if-answer-lt-DAY_ANSWER.false c.read-outcome.ensures.value c.read-outcome.ensures.meaning
-    c.outcome_verdict-said.ensures c.event_count-n.ensures c.write_five.ensures in
+    let both = day_writes c.read.result c.if-answer-lt-DAY_ANSWER.false c.read.ensures.value c.read.ensures.meaning c.write_read.ensures in
     record { value = both.0; meaning = both.1 }

@@ -1,7 +1,7 @@
 -- `wuz_rewrite_rule` leaves what the rewriter leaves, and writes its answer. Assumes nothing.
-use Prim.Native.Nat.{◌<◌}
 use native.Mathlib.Omega.{arith}
 use lib.ListN.{length}
+use Prim.Native.Nat.{◌<◌}
 use Rattle.wuzlevor.proofs.ExportLaws.{rewrite_returns, rewrite_writes}
 use Rattle.wuzlevor.proofs.wuz_rewrite_rule.Goals as goal
 
@@ -13,6 +13,5 @@ returns-then-answer-lt-REWRITE_ANSWER c =
 
 pub returns : goal.returns
 returns c =
-    let both = rewrite_writes c.rewrite-outcome.result c.if-answer-lt-REWRITE_ANSWER.false c.rewrite-outcome.ensures.value c.rewrite-outcome.ensures.meaning
-    c.outcome_verdict-said.ensures c.text_length-length.ensures c.write_five.ensures in
+    let both = rewrite_writes c.rewrite.result c.if-answer-lt-REWRITE_ANSWER.false c.rewrite.ensures.value c.write_read.ensures in
     record { value = both.0; meaning = both.1 }

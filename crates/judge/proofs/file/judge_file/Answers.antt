@@ -1,51 +1,37 @@
 -- `judge_file` answers as `judge_file_answer`, and so by the grammar, the language and the collection. Assumes nothing.
-use Prim.Native.Nat.{◌-◌}
-use native.Mathlib.Omega.{arith}
 use mathlib.Core.Path.{◌∙◌}
-use Rattle.judge.proofs.FileJoined.{after_refusal, within, line_records, after_acceptance}
+use Rattle.std.proofs.lemmas.Result.{err_from_is_err_and}
+use Rattle.judge.proofs.FileJoined.{after_refusal, line_records, after_acceptance}
 use Rattle.judge.proofs.FileResults.{clauses}
 use Rattle.judge.proofs.file.judge_file.Goals as goal
 
-pub overflow_sub-r : goal.overflow_sub-r
-overflow_sub-r c =
+pub returns-in_err-read : goal.returns-in_err-read
+returns-in_err-read c =
     let a = c.args in
-    let r = c.read-reading in
-    let h = within a.file.now r.result r.ensures.value c.in-Accepted.r c.in-Accepted.is in
-    omega (arith, h.0)
+    let p = err_from_is_err_and c.from_residual.result c.from_residual.ensures.1 in
+    let e = clauses (after_refusal a.file.now a.word.now a.limit a.table.now _ c.in_err-read.ensures.value) in
+    rw (p.1, p.2) (record { value = e.0; meaning = e.1.0; bound = e.1.1 })
 
-pub offset_bounds-lines-r : goal.offset_bounds-lines-r
-offset_bounds-lines-r c =
-    let a = c.args in
-    let r = c.read-reading in
-    let h = within a.file.now r.result r.ensures.value c.in-Accepted.r c.in-Accepted.is in
-    record { fits = omega (arith, h.1) }
+pub match_spans-requires : goal.match_spans-requires
+match_spans-requires c =
+    let x = c.in_ok-read in line_records c.args.file.now x.read x.ensures.value c.last-last.result.now c.last-last.ensures
 
-pub bounds-lines-r : goal.bounds-lines-r
-bounds-lines-r c =
+pub returns-in_err-judged : goal.returns-in_err-judged
+returns-in_err-judged c =
     let a = c.args in
-    let r = c.read-reading in
-    let h = within a.file.now r.result r.ensures.value c.in-Accepted.r c.in-Accepted.is in
-    omega (arith, h.0, h.1)
+    let x = c.in_ok-read in
+    let l = c.last-last in
+    let r = c.from_residual-in_err-judged in
+    let p = err_from_is_err_and r.result r.ensures.1 in
+    let e = clauses (c.in_err-judged.ensures.value
+    ∙ after_acceptance a.file.now x.read x.ensures.value l.result.now l.ensures a.word.now a.limit a.table.now) in
+    rw (p.1, p.2) (record { value = e.0; meaning = e.1.0; bound = e.1.1 })
 
-pub judge_line-requires : goal.judge_line-requires
-judge_line-requires c =
+pub returns : goal.returns
+returns c =
     let a = c.args in
-    let r = c.read-reading in
-    let h = within a.file.now r.result r.ensures.value c.in-Accepted.r c.in-Accepted.is in
-    line_records a.file.now r.result r.ensures.value c.in-Accepted.r c.in-Accepted.is (c.in-Accepted.r - 1) (omega (arith, h.0))
-
-pub returns-in-Accepted : goal.returns-in-Accepted
-returns-in-Accepted c =
-    let j = c.judge_line in
-    let a = c.args in
-    let r = c.read-reading in
-    let both = clauses (j.ensures
-    ∙ after_acceptance a.file.now r.result r.ensures.value c.in-Accepted.r c.in-Accepted.is a.word.now a.limit a.table.now) in
-    record { value = both.0; meaning = both.1.0; bound = both.1.1 }
-
-pub returns-in-Refused : goal.returns-in-Refused
-returns-in-Refused c =
-    let a = c.args in
-    let r = c.read-reading in
-    let both = clauses (after_refusal a.file.now r.result r.ensures.value a.word.now a.limit a.table.now _ _ c.in-Refused.is) in
-    record { value = both.0; meaning = both.1.0; bound = both.1.1 }
+    let x = c.in_ok-read in
+    let l = c.last-last in
+    let e = clauses (c.in_ok-judged.ensures.value
+    ∙ after_acceptance a.file.now x.read x.ensures.value l.result.now l.ensures a.word.now a.limit a.table.now) in
+    record { value = e.0; meaning = e.1.0; bound = e.1.1 }

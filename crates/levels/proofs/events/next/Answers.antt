@@ -9,15 +9,14 @@ use Rattle.levels.proofs.events.next.Goals as goal
 pub move_up-requires : goal.move_up-requires
 move_up-requires c =
     let a = c.args in
-    even_top a.letters.now a.set.now a.event c.requires.by_index 0 (2 * a.event) (omega arith) (omega arith) (get_or a.set.now 0 0) _ refl
+    even_top a.letters.now a.set.now a.event (c.requires.letter a.event) 0 (2 * a.event) (omega arith) (omega arith) (get_or a.set.now 0 0) _ refl
 
 pub move_up-requires-2 : goal.move_up-requires-2
 move_up-requires-2 c =
     let a = c.args in
-    even_top a.letters.now a.set.now a.event c.requires.by_index 1 (2 * a.event + 1) (omega arith) refl (get_or a.set.now 1 0) _ refl
+    even_top a.letters.now a.set.now a.event (c.requires.letter a.event) 1 (2 * a.event + 1) (omega arith) refl (get_or a.set.now 1 0) _ refl
 
 pub returns : goal.returns
 returns c =
     let a = c.args in
-    event_law a.letters.now a.set.now a.event c.requires.by_index _ _ c.move_up.ensures c.move_up-2.ensures
-    c.merge.ensures.bits c.merge-2.ensures.bits
+    event_law a.letters.now a.set.now a.event (c.requires.letter a.event) _ _ c.move_up.ensures c.move_up-2.ensures

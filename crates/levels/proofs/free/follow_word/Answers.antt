@@ -1,31 +1,20 @@
 -- `follow_word` follows the states of a number, one after another. Assumes nothing.
-use mathlib.Core.Path.{refl, ◌∙◌}
-use borrow.Author.Rules.{rules}
-use native.Mathlib.Omega.{arith}
+use mathlib.Core.Path.{refl}
 use Rattle.levels.proofs.Following.{following_start, following_turn, following_less, following_done}
 use Rattle.levels.proofs.free.follow_word.Goals as goal
 
-pub loop-w-init : goal.loop-w-init
-loop-w-init c =
-    (refl, search rules, following_start _ _ _ _)
+pub loop-b-init : goal.loop-b-init
+loop-b-init c = (refl, following_start _ _ _ _)
 
-pub returns-then-b-eq64 : goal.returns-then-b-eq64
-returns-then-b-eq64 c =
-    let i = c.loop-w.invariant in
-    following_done _ _ _ _ i.2 i.0 c.first-b.ensures c.if-b-eq64.true
+pub loop-b-smaller : goal.loop-b-smaller
+loop-b-smaller c =
+    let i = c.loop-b.invariant in
+    rw c.one-done.ensures (following_less _ _ _ _ i.1 c.requires.w_bound c.requires.reflexive i.0 c.in-Some.ensures)
 
-pub loop-w-smaller : goal.loop-w-smaller
-loop-w-smaller c =
-    let i = c.loop-w.invariant in
-    let e = c.if-b-eq64.false in
-    rw c.one-done.ensures
-    (following_less c.args.w _ c.loop-w.done c.first-b.result i.2 (omega arith) c.requires.reflexive i.0 c.first-b.ensures e)
+pub loop-b-preserved : goal.loop-b-preserved
+loop-b-preserved c =
+    let i = c.loop-b.invariant in
+    (i.0, rw c.one-done.ensures (following_turn _ _ _ _ i.1 c.requires.w_bound c.requires.reflexive i.0 c.in-Some.ensures c.lead.ensures))
 
-pub loop-w-preserved : goal.loop-w-preserved
-loop-w-preserved c =
-    let i = c.loop-w.invariant in
-    let e = c.if-b-eq64.false in
-    let g =
-    following_turn c.args.w _ c.loop-w.done c.first-b.result i.2 (omega arith) c.requires.reflexive i.0 c.first-b.ensures e
-    c.lead.ensures in
-    (i.0, g.long ∙ c.requires.closed_len.2, rw c.one-done.ensures g)
+pub returns : goal.returns
+returns c = following_done _ _ _ c.loop-b.invariant.1 c.loop-b.invariant.0 c.in_default.ensures

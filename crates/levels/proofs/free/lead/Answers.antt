@@ -1,7 +1,6 @@
--- `lead` joins the two numbers of a state's row. Assumes nothing.
+-- `lead` joins a state's row. Assumes nothing.
 use Rattle.levels.proofs.Following.{led_law}
 use Rattle.levels.proofs.free.lead.Goals as goal
 
 pub returns : goal.returns
-returns c =
-    led_law _ _ c.merge.ensures.bits c.merge-2.ensures.bits
+returns c = led_law _ _ c.row.ensures c.merge_row.ensures

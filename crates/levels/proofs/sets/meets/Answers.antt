@@ -2,10 +2,11 @@
 use mathlib.Core.Path.{ap}
 use mathlib.Core.Bool.{not}
 use borrow.Author.Tests.{eqb-true, not-false, eq-eqb}
+use borrow.Author.Rules.{rules}
 use Rattle.levels.proofs.SetLaws.{meets_law}
 use Rattle.levels.proofs.sets.meets.Goals as goal
 
 pub returns : goal.returns
 returns c =
-    let d = meets_law _ _ ((c.shared_slice_known-1.given 0).fits, (c.shared_slice_known-1.given 1).fits) in
+    let d = meets_law c.args.a.now c.args.b.now (search rules, search rules) in
     (λ e. d.0 (eqb-true _ _ (not-false _ e)), λ e. ap not (eq-eqb _ _ (d.1 e)))

@@ -1,43 +1,27 @@
 -- `row_length` sums over the ends of a row whose bit is 1. Assumes nothing.
-use native.Mathlib.Omega.{arith}
-use mathlib.Core.Path.{ap}
-use lib.ListN.{length}
+use Rattle.std.proofs.Common.{arith, ap, length}
 use Rattle.bits.specs.Bit.{bit_at}
-use Rattle.listing.proofs.WrittenLaws.{line_length}
-use Rattle.listing.proofs.SpanLines.{row_over, row_next, row_length, row_most}
+use Rattle.listing.proofs.SpanLines.{row_end, row_added, row_most}
 use Rattle.listing.proofs.spans.row_length.Goals as goal
 
-pub loop-j-init : goal.loop-j-init
-loop-j-init c =
+pub overflow_add-sum : goal.overflow_add-sum
+overflow_add-sum c =
     let a = c.args in
-    let x = c.next_end-j.ensures in
-    (x.there, omega (arith, ap length (row_next (bit_at a.row.now) a.i a.n x)))
-
-pub overflow_add-sum-in-loop-j-2 : goal.overflow_add-sum-in-loop-j-2
-overflow_add-sum-in-loop-j-2 c =
-    let a = c.args in
-    let l = c.loop-j in
-    let d = line_length 83 a.i l.j in
-    let e = row_length (bit_at a.row.now) a.i a.n l.j c.loop-j-test.true l.invariant.0 in
-    omega (arith, l.invariant.1, row_most (bit_at a.row.now) a.i a.n c.requires.2)
-
-pub loop-j-smaller : goal.loop-j-smaller
-loop-j-smaller c =
-    omega (arith, c.next_end-j-in-loop-j.ensures.from)
+    let e = row_added (bit_at a.row.now) a.i a.n c.in-Some.ensures in
+    let d = c.line_length-sum.ensures 83 in
+    omega (arith, c.loop-j.invariant.1, row_most (bit_at a.row.now) a.i a.n c.requires.1)
 
 pub loop-j-preserved : goal.loop-j-preserved
 loop-j-preserved c =
     let a = c.args in
-    let l = c.loop-j in
-    let x = c.next_end-j-in-loop-j.ensures in
-    let d = line_length 83 a.i l.j in
-    let e = row_length (bit_at a.row.now) a.i a.n l.j c.loop-j-test.true l.invariant.0 in
-    (x.there, omega (arith, l.invariant.1, ap length (row_next (bit_at a.row.now) a.i a.n x)))
+    let e = row_added (bit_at a.row.now) a.i a.n c.in-Some.ensures in
+    let d = c.line_length-sum.ensures 83 in
+    let w = c.in-Some.ensures.within in
+    (omega arith, omega (arith, c.loop-j.invariant.1))
 
 pub returns : goal.returns
 returns c =
     let a = c.args in
-    let l = c.loop-j in
-    let e = ap length (row_over (bit_at a.row.now) a.i a.n l.j (omega arith)) in
-    let m = row_most (bit_at a.row.now) a.i a.n c.requires.2 in
-    (omega (arith, l.invariant.1), omega (arith, l.invariant.1))
+    let e = ap length (row_end (bit_at a.row.now) a.i a.n c.loop-j.from c.in_default.ensures) in
+    let m = row_most (bit_at a.row.now) a.i a.n c.requires.1 in
+    (omega (arith, c.loop-j.invariant.1), omega (arith, c.loop-j.invariant.1))

@@ -1,31 +1,15 @@
 -- `spans_length` sums over the rows of a block. Assumes nothing.
-use native.Mathlib.Omega.{arith}
-use mathlib.Core.Path.{ap}
-use lib.ListN.{length}
-use borrow.Author.Rules.{rules}
+use Rattle.std.proofs.Common.{arith, ap, length}
 use Rattle.listing.specs.Marked.{is_marked}
 use Rattle.listing.proofs.SpanLines.{block_over, block_length_lem, block_most}
 use Rattle.listing.proofs.spans.spans_length.Goals as goal
-
-pub loop-i-init : goal.loop-i-init
-loop-i-init c =
-    omega arith
-
-pub read_row-row-requires : goal.read_row-row-requires
-read_row-row-requires c =
-    record { lies = c.requires; i_le_n = c.loop-i-test.true }
-
-pub row_length-sum-requires : goal.row_length-sum-requires
-row_length-sum-requires c =
-    (search rules, c.loop-i-test.true, c.requires.short)
 
 pub overflow_add-sum : goal.overflow_add-sum
 overflow_add-sum c =
     let a = c.args in
     let l = c.loop-i in
     let r = c.read_row-row in
-    let t = c.loop-i-test.true in
-    let e = block_length_lem a.block.now r.result a.n l.i c.requires.short t r.ensures in
+    let e = block_length_lem a.block.now r.result a.n l.i c.requires.short (omega arith) r.ensures in
     let m = block_most (is_marked a.n a.block.now) a.n c.requires.short in
     omega (arith, l.invariant, c.row_length-sum.ensures.0)
 
@@ -34,8 +18,7 @@ loop-i-preserved c =
     let a = c.args in
     let l = c.loop-i in
     let r = c.read_row-row in
-    let t = c.loop-i-test.true in
-    let e = block_length_lem a.block.now r.result a.n l.i c.requires.short t r.ensures in
+    let e = block_length_lem a.block.now r.result a.n l.i c.requires.short (omega arith) r.ensures in
     omega (arith, l.invariant, c.row_length-sum.ensures.0)
 
 pub returns : goal.returns

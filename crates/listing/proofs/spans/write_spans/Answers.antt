@@ -1,29 +1,24 @@
 -- `write_spans` writes the lines of a block's rows one after another. Assumes nothing.
-use Prim.Native.Nat.{◌+◌, ◌≤◌}
-use native.Mathlib.Omega.{arith}
-use mathlib.Core.Path.{refl}
-use borrow.Author.Rules.{rules}
-use Rattle.listing.specs.Marked.{is_marked, block_lines}
-use Rattle.listing.proofs.WrittenLaws.{part_start, part_fits, part_more, part_long, part_done}
-use Rattle.listing.proofs.SpanLines.{block_over, block_row, block_length_lem}
+use Rattle.std.proofs.Common.{arith, ◌+◌}
+use Rattle.bits.specs.Bit.{bit_at}
+use Rattle.listing.specs.Marked.{is_marked, block_lines, row_lines}
+use Rattle.listing.proofs.SpanLines.{block_over, block_row}
+use Rattle.listing.proofs.WrittenLaws.{part_start, part_more, part_piece_room, part_done}
 use Rattle.listing.proofs.spans.write_spans.Goals as goal
 
 pub loop-i-init : goal.loop-i-init
-loop-i-init c =
-    part_start c.args.out.now c.args.at refl
+loop-i-init c = part_start c.args.writer.now _
 
-pub read_row-row-requires : goal.read_row-row-requires
-read_row-row-requires c =
-    record { lies = c.requires.lies; i_le_n = omega arith }
-
-pub write_row-end-requires : goal.write_row-end-requires
-write_row-end-requires c =
+pub write_row-requires : goal.write_row-requires
+write_row-requires c =
     let a = c.args in
     let l = c.loop-i in
     let r = c.read_row-row in
-    let t : l.i ≤ a.n = omega arith in
-    let e = block_length_lem a.block.now r.result a.n l.i c.requires.lies.short t r.ensures in
-    record { row_len = (search rules, t, c.requires.lies.short); i_in_bounds = omega (arith, part_fits l.invariant c.requires.n_in_bounds) }
+    let e = block_row a.block.now r.result a.n l.i c.requires.lies.short (omega arith) r.ensures in
+    record {
+      row_in_block = (omega arith, c.requires.lies.short);
+      room = part_piece_room l.invariant (row_lines (bit_at r.result) l.i a.n l.i) (block_lines (is_marked a.n a.block.now) a.n (l.i + 1)) e c.requires.room;
+    }
 
 pub loop-i-preserved : goal.loop-i-preserved
 loop-i-preserved c =
@@ -31,11 +26,7 @@ loop-i-preserved c =
     let l = c.loop-i in
     let r = c.read_row-row in
     let e = block_row a.block.now r.result a.n l.i c.requires.lies.short (omega arith) r.ensures in
-    part_more (block_lines (is_marked a.n a.block.now) a.n (l.i + 1)) l.invariant e c.write_row-end.ensures
-
-pub shape_of-out : goal.shape_of-out
-shape_of-out c =
-    part_long c.loop-i.invariant
+    part_more l.invariant (block_lines (is_marked a.n a.block.now) a.n (l.i + 1)) e c.write_row.ensures
 
 pub returns : goal.returns
 returns c =

@@ -1,13 +1,8 @@
 -- `write_spans` writes the lines of a block's rows one after another. Assumes nothing.
-use Prim.Native.Nat.{◌+◌, ◌-◌}
 use Rattle.listing.specs.Marked.{is_marked, block_lines}
-use Rattle.listing.proofs.WrittenLaws.{PartWritten}
+use Rattle.listing.proofs.WrittenLaws.{PartPut}
 use Rattle.listing.proofs.spans.write_spans.Given as goal
 
 abbrev pub invariant-loop-i : goal.invariant-loop-i
 invariant-loop-i l =
-    PartWritten l.initial.out l.at (block_lines (is_marked l.n l.block) l.n 0) (block_lines (is_marked l.n l.block) l.n l.i) l.out l.end
-
-abbrev pub decreases-loop-i : goal.decreases-loop-i
-decreases-loop-i l =
-    l.n + 1 - l.i
+    PartPut l.initial.writer (block_lines (is_marked l.n l.block) l.n 0) (block_lines (is_marked l.n l.block) l.n l.i) l.writer

@@ -7,52 +7,44 @@ use Rattle.marks.proofs.RowLaws.{row_spans}
 use borrow.Author.Rules.{rules}
 use Rattle.marks.proofs.ends.fill_ended.Goals as goal
 
-pub returns-then-limit-count : goal.returns-then-limit-count
-returns-then-limit-count c =
-    let n = c.count_marked-more.ensures in
-    record {
+pub returns-in_err-work-clause-ended : goal.returns-in_err-work-clause-ended
+returns-in_err-work-clause-ended c =
+    let n = c.count_at.ensures.0 in
+    let o = c.in_err-work.ensures.spent in
+    rw c.from_residual.ensures record {
       marks = _;
-      marked = c.store.ensures;
+      marked = rw c.new-marks.ensures at c.store.ensures;
       counted = λ f. absurd (true≢false f);
-      over = λ _. let i = c.if-limit-count.true in
-          let p = c.requires.initial_len.2 in
-          omega arith;
+      over = λ _. omega arith;
       spends = λ _. refl;
       bounded = omega arith;
       row = λ f. absurd (true≢false f);
       kept = λ _. refl;
     }
 
-pub add_row-requires : goal.add_row-requires
-add_row-requires c =
+pub add_row-requires-clause-by_index : goal.add_row-requires-clause-by_index
+add_row-requires-clause-by_index c =
     let a = c.args in
     let p = c.requires in
-    let q = p.initial_len in
-    record {
-      lies = p.lies;
-      i_le_n = (q.1, search rules);
-      by_index = row_spans _ a.target a.i a.n _ (search rules)
-          (λ k l. c.row_at_start-row.ensures k l ∙ one_row c.store.ensures a.target a.n k p.complement_value q.3 q.1);
-    }
+    row_spans _ a.target a.i a.n _ (search rules)
+    (λ k l. c.row_at_start-row.ensures k l ∙ one_row (rw c.new-marks.ensures at c.store.ensures) a.target a.n k p.complement_value p.i_le_n)
 
-pub returns : goal.returns
-returns c =
+pub returns-clause-ended : goal.returns-clause-ended
+returns-clause-ended c =
     let a = c.args in
     let p = c.requires in
-    let q = p.initial_len in
-    let n = c.count_marked-more.ensures in
-    let i = c.if-limit-count.false in
-    let l = q.2 in
+    let n = c.count_at.ensures.0 in
+    let m = c.in_ok-work.ensures.counted in
     record {
       marks = _;
-      marked = c.store.ensures;
+      marked = rw c.new-marks.ensures at c.store.ensures;
       counted = λ _. omega arith;
       over = λ f. absurd (false≢true f);
       spends = λ f. absurd (false≢true f);
       bounded = omega arith;
       row = λ _. (
         _,
-        λ k l. c.row_at_start-row.ensures k l ∙ one_row c.store.ensures a.target a.n k p.complement_value q.3 q.1,
+        λ k l. c.row_at_start-row.ensures k l ∙ one_row (rw c.new-marks.ensures at c.store.ensures) a.target a.n k p.complement_value p.i_le_n,
         c.add_row.ensures,
       );
       kept = λ f. absurd (false≢true f);

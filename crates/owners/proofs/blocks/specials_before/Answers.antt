@@ -1,37 +1,33 @@
 -- `specials_before` is `specials_before`. Assumes nothing.
 use native.Mathlib.Omega.{arith}
-use Rattle.owners.proofs.FirstLoops.{counting_begins, counting_on, counting_ends}
+use Prim.Native.Nat.{◌<◌}
+use mathlib.Core.Path.{refl, sym, ◌∙◌}
+use borrow.Author.Tests.{lt-ltb, le-ltb}
+use Rattle.std.proofs.Common.{length-take}
+use Rattle.std.proofs.lemmas.List.{get_or-take}
+use Rattle.moves.specs.Moves.{no_node}
+use Rattle.owners.proofs.FirstLoops.{counting_begins, counting_on, counting_past, counting_ends}
 use Rattle.owners.proofs.blocks.specials_before.Goals as goal
+use Rattle.owners.proofs.blocks.specials_before.Goals.{then-is_special+then-node-bound, else-is_special, else-is_special-via-then-is_special+else-node-bound, else-is_special-via-else-is_special}
 
-pub loop-i-init : goal.loop-i-init
-loop-i-init c =
+pub loop-node-init : goal.loop-node-init
+loop-node-init c =
     counting_begins
 
-pub offset_bounds-nodes-i : goal.offset_bounds-nodes-i
-offset_bounds-nodes-i c =
-    omega arith
-
-pub bounds-nodes-i : goal.bounds-nodes-i
-bounds-nodes-i c =
-    omega arith
-
-pub overflow_add-count : goal.overflow_add-count
-overflow_add-count c =
-    let l = c.loop-i in
-    omega (arith, c.one_before-count.ensures.1, l.invariant.bounded, l.invariant.few)
-
-pub overflow_add-i : goal.overflow_add-i
-overflow_add-i c =
-    omega arith
-
-pub loop-i-smaller : goal.loop-i-smaller
-loop-i-smaller c =
-    omega arith
-
-pub loop-i-preserved : goal.loop-i-preserved
-loop-i-preserved c =
-    counting_on c.loop-i.invariant c.loop-i-test.true c.one_before-count.ensures
+pub loop-node-preserved : goal.loop-node-preserved
+loop-node-preserved c =
+    let g = c.loop-node.invariant in
+    let h : c.loop-node.node-index < c.args.records.now.m = omega (arith, c.loop-node-test.true, length-take c.args.records.now.m c.args.records.now.nodes) in
+    let k = get_or-take c.args.records.now.m c.args.records.now.nodes c.loop-node.node-index no_node h in
+    elim c.if-is_special.branch [
+      | then-is_special+then-node-bound w ↦ rw w.count-is
+          (counting_on g h (rw (← k, sym c.is_special.ensures ∙ w.if-is_special.true, lt-ltb _ _ w.if-node-bound.true) refl, omega arith))
+      | else-is_special w ↦ rw w.count-is (counting_past g h (elim w.else-is_special.branch [
+        | else-is_special-via-then-is_special+else-node-bound v ↦ rw (← k, sym c.is_special.ensures ∙ v.if-is_special.true, le-ltb _ _ v.if-node-bound.false) refl
+        | else-is_special-via-else-is_special v ↦ rw (← k, sym c.is_special.ensures ∙ v.if-is_special.false) refl
+      ]))
+    ]
 
 pub returns : goal.returns
 returns c =
-    counting_ends c.loop-i.invariant c.requires c.loop-i-test.false
+    let e = length-take c.args.records.now.m c.args.records.now.nodes in counting_ends c.loop-node.invariant (omega arith) (omega arith)

@@ -1,54 +1,63 @@
--- `read_line` reads as `line_read` does. Assumes nothing.
+-- `read_line` finds the fields of a line of the form. Assumes nothing.
 use native.Mathlib.Omega.{arith}
-use mathlib.Core.Path.{sym, ◌∙◌}
+use mathlib.Core.Path.{refl, sym}
+use Prim.Native.Nat.{◌+◌}
+use lib.ListN.{length}
+use lib.Seq.{length-take-le}
 use Rattle.event.proofs.Tails.{tail_length}
-use Rattle.rule_line.proofs.CodeLaws.{two_long, name_fits, no_tag, no_tab, no_name, formed, no_end, end_within}
+use Rattle.rule_line.proofs.CodeLaws.{no_tag, no_name, past_name, end_within, no_end, formed}
 use Rattle.rule_line.proofs.line.read_line.Goals as goal
 
-pub returns-then-byte_at-ne-RULE_TAG : goal.returns-then-byte_at-ne-RULE_TAG
-returns-then-byte_at-ne-RULE_TAG c =
-    no_tag _ (λ e. c.if-byte_at-ne-RULE_TAG.true (c.byte_at.ensures ∙ e))
+pub returns-in_err-fields : goal.returns-in_err-fields
+returns-in_err-fields c =
+    rw c.from_residual.ensures (no_tag _ c.in_err-fields.ensures.cases)
 
-pub returns-then-byte_at-ne-TAB : goal.returns-then-byte_at-ne-TAB
-returns-then-byte_at-ne-TAB c =
-    no_tab _ (λ e. c.if-byte_at-ne-TAB.true (c.byte_at-2.ensures ∙ e))
+pub returns-in_err-name : goal.returns-in_err-name
+returns-in_err-name c =
+    rw c.from_residual-in_err-name.ensures (no_name c.args.s.now c.in_ok-fields.ensures.cases.0 c.in_ok-fields.ensures.cases.1 c.in_err-name.ensures)
 
-pub slice_bounds-name_length-count : goal.slice_bounds-name_length-count
-slice_bounds-name_length-count c =
-    two_long c.args.s.now (sym c.byte_at-2.ensures ∙ c.if-byte_at-ne-TAB.false)
+pub slice_bounds-body-count : goal.slice_bounds-body-count
+slice_bounds-body-count c =
+    let n = c.in_ok-name.ensures in
+    past_name c.args.s.now c.in_ok-fields.ensures.cases.0 c.in_ok-fields.ensures.cases.1 _ n.2 (omega (arith, n.0, n.2))
 
-pub slice_bounds-name_length-start : goal.slice_bounds-name_length-start
-slice_bounds-name_length-start c =
-    two_long c.args.s.now (sym c.byte_at-2.ensures ∙ c.if-byte_at-ne-TAB.false)
+pub slice_bounds-body-start : goal.slice_bounds-body-start
+slice_bounds-body-start c =
+    let n = c.in_ok-name.ensures in
+    past_name c.args.s.now c.in_ok-fields.ensures.cases.0 c.in_ok-fields.ensures.cases.1 _ n.2 (omega (arith, n.0, n.2))
 
-pub returns-then-n-eq0 : goal.returns-then-n-eq0
-returns-then-n-eq0 c =
-    no_name _ _ c.name_length-n.ensures c.if-n-eq0.true
+pub returns-then-end-body : goal.returns-then-end-body
+returns-then-end-body c =
+    let n = c.in_ok-name.ensures in
+    no_end c.args.s.now c.in_ok-fields.ensures.cases.0 c.in_ok-fields.ensures.cases.1 _ n.2 (omega (arith, n.0, n.2)) _ c.find_newline-end.ensures
+    c.if-end-body.true
 
-pub overflow_add-body : goal.overflow_add-body
-overflow_add-body c =
-    let f = name_fits 9 (omega arith) _ _ c.name_length-n.ensures c.if-n-eq0.false in omega (arith, f.1)
+pub slice_bounds-result-end : goal.slice_bounds-result-end
+slice_bounds-result-end c =
+    let n = c.in_ok-name.ensures in
+    sym (length-take-le c.find_newline-end.result _
+    (end_within c.args.s.now c.in_ok-fields.ensures.cases.0 c.in_ok-fields.ensures.cases.1 _ n.2 (omega (arith, n.0, n.2)) _ c.find_newline-end.ensures))
 
-pub slice_bounds-find_newline-count : goal.slice_bounds-find_newline-count
-slice_bounds-find_newline-count c =
-    let f = name_fits 9 (omega arith) _ _ c.name_length-n.ensures c.if-n-eq0.false in omega (arith, f.0, tail_length 2 c.args.s.now)
+pub overflow_add-result : goal.overflow_add-result
+overflow_add-result c =
+    let n = c.in_ok-name.ensures in
+    let x = c.in_ok-fields.fields.now in
+    omega (arith, c.in_ok-fields.ensures.cases.2, tail_length (length c.in_ok-name.name.now + 1) x, end_within c.args.s.now c.in_ok-fields.ensures.cases.0 c.in_ok-fields.ensures.cases.1 _ n.2 (omega (arith, n.0, n.2)) _ c.find_newline-end.ensures)
 
-pub slice_bounds-find_newline-start : goal.slice_bounds-find_newline-start
-slice_bounds-find_newline-start c =
-    let f = name_fits 9 (omega arith) _ _ c.name_length-n.ensures c.if-n-eq0.false in omega (arith, f.0, tail_length 2 c.args.s.now)
+pub slice_bounds-result-count : goal.slice_bounds-result-count
+slice_bounds-result-count c =
+    let n = c.in_ok-name.ensures in
+    let d = c.if-end-body.false in
+    omega (arith, end_within c.args.s.now c.in_ok-fields.ensures.cases.0 c.in_ok-fields.ensures.cases.1 _ n.2 (omega (arith, n.0, n.2)) _ c.find_newline-end.ensures)
 
-pub overflow_add-body-2 : goal.overflow_add-body-2
-overflow_add-body-2 c =
-    let f = name_fits 9 (omega arith) _ _ c.name_length-n.ensures c.if-n-eq0.false in
-    let w = end_within c.args.s.now _ _ c.find_newline-e.ensures in
-    omega (arith, f.1)
-
-pub returns-then-body-e : goal.returns-then-body-e
-returns-then-body-e c =
-    formed _ _ _ c.name_length-n.ensures c.find_newline-e.ensures
-    (sym c.byte_at.ensures ∙ c.if-byte_at-ne-RULE_TAG.false) (sym c.byte_at-2.ensures ∙ c.if-byte_at-ne-TAB.false)
-    c.if-n-eq0.false c.if-body-e.true
+pub slice_bounds-result-start : goal.slice_bounds-result-start
+slice_bounds-result-start c =
+    let n = c.in_ok-name.ensures in
+    let d = c.if-end-body.false in
+    omega (arith, end_within c.args.s.now c.in_ok-fields.ensures.cases.0 c.in_ok-fields.ensures.cases.1 _ n.2 (omega (arith, n.0, n.2)) _ c.find_newline-end.ensures)
 
 pub returns : goal.returns
 returns c =
-    no_end _ _ _ c.name_length-n.ensures c.find_newline-e.ensures (omega (arith, c.if-body-e.false))
+    let n = c.in_ok-name.ensures in
+    formed c.args.s.now c.in_ok-fields.ensures.cases.0 c.in_ok-fields.ensures.cases.1 _ n.2 (omega (arith, n.0, n.2)) _ c.find_newline-end.ensures
+    c.if-end-body.false _ n.1 refl refl

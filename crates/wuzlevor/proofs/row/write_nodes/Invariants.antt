@@ -1,5 +1,6 @@
 -- `write_nodes` stores two numbers for each record. Assumes nothing.
-use Prim.Native.Nat.{ℕ, ◌-◌}
+use Prim.Native.Nat.{ℕ}
+use lib.ListN.{length}
 use Rattle.expression.specs.KindNumber.{kind_number}
 use Rattle.expression.specs.declared.Node.{Node}
 use Rattle.wuzlevor.proofs.RowLaws.{Writing}
@@ -14,8 +15,4 @@ kind x = kind_number x.kind
 
 abbrev pub invariant-loop-i : goal.invariant-loop-i
 invariant-loop-i l =
-    Writing offset kind l.records l.m l.initial.nodes l.nodes l.i
-
-abbrev pub decreases-loop-i : goal.decreases-loop-i
-decreases-loop-i l =
-    l.m - l.i
+    Writing offset kind l.records (length l.records) l.initial.nodes l.nodes l.i

@@ -1,6 +1,0 @@
--- The buffer keeps its length.
-use Rattle.std.proofs.Common.{◌≡◌, length}
-use Rattle.case_runner.proofs.show.seconds_before.Given as goal
-
-abbrev pub invariant-loop-i : goal.invariant-loop-i
-invariant-loop-i l = length l.seconds ≡ 1024

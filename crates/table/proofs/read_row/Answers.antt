@@ -1,8 +1,0 @@
--- `read_row_spec`. Assumes nothing.
-use mathlib.Core.Path.{refl}
-use Rattle.table.proofs.Rows.{read_law}
-use Rattle.table.proofs.read_row.Goals as goal
-
-pub returns : goal.returns
-returns c =
-    read_law _ _ _ _ _ refl refl refl refl refl
