@@ -74,7 +74,7 @@ KIND == "cases" {
 
 KIND == "merges" { claim("merged " events_list($1) " " events_list($2) " ≡ " merged_list($3)) }
 
-KIND == "readings" && $2 == 4 { claim("scanned (bytes \"" $1 "\") ≡ Broken " $3) }
+KIND == "readings" && $2 == 4 { claim("scanned (bytes \"" $1 "\") ≡ Err " $3) }
 
 KIND == "readings" && $2 == 20 { claim("unordered_at (bytes \"" $1 "\") ≡ " $3) }
 
@@ -86,7 +86,7 @@ KIND == "readings" && $2 == 0 {
     claim("map offset (special_parts " tree ") ≡ " special_offsets(items, n))
     for (i = 1; i <= n; i++) items[i] = node_of(items[i])
     claim("records " tree " ≡ " join_list(items, n))
-    claim("scanned (bytes \"" $1 "\") ≡ Complete " $4 " " $5)
+    claim("scanned (bytes \"" $1 "\") ≡ counted " $4 " " $5)
     claim("unordered_at (bytes \"" $1 "\") ≡ " length($1))
     claim("double_at (bytes \"" $1 "\") ≡ " length($1))
 }
