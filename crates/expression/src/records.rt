@@ -10,5 +10,4 @@ pub struct Records {
     pub k: usize,
     pub nodes: [Node; 64],
     ghost m_bound: { m ≤ 64 },
-    ghost k_bound: { k ≤ 7 },
 }

@@ -14,7 +14,7 @@ use Rattle.rule_file.specs.FileMeaning.{Passed}
 use Rattle.rule_file.specs.FileComputed.{FileRead, file_read, answered, file_answer}
 use Rattle.rule_file.specs.declared.accepted.RuleFile.{RuleFile}
 use Rattle.rule_file.specs.declared.LineRefusal.{LineRefusal}
-use Rattle.rule_file.proofs.FileRows.{in_file, refused_file, line_fits}
+use Rattle.rule_file.proofs.FileRows.{in_file, refused_file, line_fits, entry}
 use Rattle.owners.specs.Filling.{rule_of}
 use Rattle.matcher.specs.MatchAnswer.{told}
 use Rattle.matcher.specs.MatchComputed.{match_answer}
@@ -67,18 +67,18 @@ module _ (file : List ℕ) where
           rising = line_rising lines_read.passed l h;
         }
 
-    -- the last line's
-    module _ (q : Records) (e : told_line q ≡ line_at lines (f.count - 1)) where
-      last_read : ReadRule lines_read.last.tree q.nodes q.m q.k
-      last_read =
-          let a = lines_read in
-          read_rule_lem a.last (last_in a.above a.last) (e ∙ ap last_line a.same ∙ last_line_lem a.above a.last)
+    -- the records of any line of the file
+    pub line_records : (i : ℕ) → i < f.count → (q : Records) → told_line q ≡ line_at lines i → RuleRecords (rule_of q) q.nodes q.m q.k
+    line_records i h q e =
+        let a = lines_read in
+        let x = entry (λ (l : Line). line_nodes l.tree) (a.above ++ a.last ∷ []) _ i _ (omega (arith, many)) in
+        as_records (read_rule_lem x.of x.member (e ∙ ap (λ (z : FileAnswer). line_at z.lines i) a.same ∙ x.same))
 
-      pub line_records : RuleRecords (rule_of q) q.nodes q.m q.k
-      line_records = as_records last_read
-
-      pub after_acceptance : (w : Word) (limit : ℕ) (old : List ℕ)
-          → match_answer (rule_of q) w limit old ≡ judge_file_answer file w limit old
-      after_acceptance w limit old =
-          let a = lines_read in
-          ap (λ (t : Tree). match_answer t w limit old) (rebuilt last_read) ∙ to_match file w limit old a.above a.last a.passed
+    -- the last line's answer is the judge's
+    pub after_acceptance : (q : Records) → told_line q ≡ line_at lines (f.count - 1) → (w : Word) (limit : ℕ) (old : List ℕ)
+        → match_answer (rule_of q) w limit old ≡ judge_file_answer file w limit old
+    after_acceptance q e w limit old =
+        let a = lines_read in
+        ap (λ (t : Tree). match_answer t w limit old)
+        (rebuilt (read_rule_lem a.last (last_in a.above a.last) (e ∙ ap last_line a.same ∙ last_line_lem a.above a.last)))
+        ∙ to_match file w limit old a.above a.last a.passed

@@ -3,11 +3,10 @@ ghost use Rattle.std.specs.Prelude.{◌≡◌, true, false, ◌↔◌, ◌≤◌
 ghost use Rattle.levels.specs.Sets.{Disjoint, Entries, LetterEntries, Reflexive, Transitive, AllLed, Exactly, LetterExit};
 ghost use Rattle.levels.specs.Exits.{Room, Begun, Saturated};
 
-use crate::States;
-use crate::events::next;
 use crate::free::{follow, lead};
 use crate::open::Open;
 use crate::sets::{intersect, meets};
+use crate::{States, next_states};
 
 // Bits, but for the last: the closed free moves, bit 128 * s + t where they lead from state s to state t; the entries of each letter's nodes,
 // bit 128 * c + s for the entry s of a node whose set has the letter c; the entries of the special nodes, bit s for the entry s of one; and
@@ -43,7 +42,7 @@ impl Automaton {
     pub fn next_states(&self, set: &States, event: u8) -> States
         ensures { Exactly (LetterExit self.now.letters set.now event) result }
     {
-        next(&self.letters, set, usize::from(event))
+        next_states(&self.letters, set, event)
     }
 
     // The states that are reached at number j from a set that is closed under free moves: special nodes are entered, and left at once where

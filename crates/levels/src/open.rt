@@ -20,6 +20,7 @@ pub struct Open {
 impl Open {
     // No node is open.
     pub fn new() -> Open
+        ensures exits { result.exits ≡ replicate 256 0 }
         ensures opened { result.opened ≡ replicate 2 0 }
         ensures full { result.full ≡ replicate 2 0 }
     {
@@ -32,6 +33,7 @@ impl Open {
 
     // Forgets the nodes that are open; their exits stay, as clearing them would take long.
     pub fn forget(&mut self)
+        ensures exits { self.new.exits ≡ self.old.exits }
         ensures opened { self.new.opened ≡ replicate 2 0 }
         ensures full { self.new.full ≡ replicate 2 0 }
     {

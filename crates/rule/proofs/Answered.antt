@@ -237,14 +237,25 @@ passed_all s (Err r) {z} f = absurd (cc)
 pub rule_sizes : (s : List ℕ) {z : Size} → rule_outcome s ≡ Ok z → (z.m ≤ 64) × (z.k ≤ 7)
 rule_sizes s e = let p = passed_all s (sentence_outcome s) e in (p.1, p.2)
 
--- so that it can be read
-pub readable : (s : List ℕ) {z : Size} → rule_outcome s ≡ Ok z → (length s ≤ 255) × Readable s
-readable s {z} e =
-    let p = passed_all s (sentence_outcome s) e in
-    let w = subst (Says s) p.0 (sentence_says s) in
+-- a sentence of few nodes can be read
+sentence_readable : (s : List ℕ) {z : Size} → sentence_outcome s ≡ Ok z → z.m ≤ 64 → (length s ≤ 255) × Readable s
+sentence_readable s e h =
+    let w = subst (Says s) e (sentence_says s) in
     let t = tree_is w.formed.reads in
-    let h = p.1 in
     (w.formed.legal.fits.1, record { sentence = subst (Reads Alt 0 s) (sym t) w.formed.reads; few = omega (arith, w.nodes, ap (λ (x : Tree). size x) t) })
+
+-- so can a text that the first checks and the size check accept, whatever stars it has
+pub readable : {s : List ℕ} {y z : Size} → sentence_outcome s ≡ Ok y → size_outcome y.m y.k ≡ Ok z → (length s ≤ 255) × Readable s
+readable {s} {y} e f = let p = size_passed y f in sentence_readable s (e ∙ p.0) p.1
+
+-- and one that all checks accept
+pub rule_readable : (s : List ℕ) {z : Size} → rule_outcome s ≡ Ok z → (length s ≤ 255) × Readable s
+rule_readable s e = let p = passed_all s (sentence_outcome s) e in sentence_readable s p.0 p.1
+
+-- the answer on a text that the first checks accept, and no star of which stands directly after a star
+pub past_stars : (s : List ℕ) {y : Size} {o : Outcome} → sentence_outcome s ≡ Ok y → length s ≤ double_at s → size_outcome y.m y.k ≡ o
+    → rule_answer s ≡ answer_to s o
+past_stars s e h f = answer_after s e ∙ simp (le-ltb (double_at s) (length s) h) (ap (answer_to s) f)
 
 -- the code's answer, by the outcome of the checks
 pub answered : (s : List ℕ) {o : Outcome} → rule_outcome s ≡ o → answer_to s o ≡ rule_answer s

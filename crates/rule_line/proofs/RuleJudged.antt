@@ -223,7 +223,7 @@ module _ {lines : List PassedLine} {ls : List Line} (k : Kept lines ls) {s : Lis
             let w = a.says in
             let few = q.records.m_bound in
             let h : size tree ≤ 64 = omega (arith, n.1, w.m_is) in
-            let g : specials tree ≤ 7 = omega (arith, n.2, w.k_is, q.records.k_bound) in
+            let g : specials tree ≤ 7 = omega (arith, n.2, w.few_special) in
             let e = nodes_are a.places a.summed in
             let mi : q.records.m ≡ size tree = w.m_is ∙ sym n.1 in
             let ki : q.records.k ≡ specials tree = w.k_is ∙ sym n.2 in

@@ -152,15 +152,16 @@ module _ {lines : List PassedLine} {shape : Shape} {m k : ℕ} (z : Sentence lin
                     (within_unused 1000000 (64 - length (nodes_in lines shape (take n places))) (nodes_in lines shape (take n places)) g.near),
               )
 
-          pub sentence_says : (q : PassedRule) → q.records.m ≡ m + w.nodes → q.records.k ≡ k + w.specials → q.text_length ≡ w.length
+          pub sentence_says : k + w.specials ≤ 7 → (q : PassedRule) → q.records.m ≡ m + w.nodes → q.records.k ≡ k + w.specials → q.text_length ≡ w.length
               → q.records.nodes ≡ written → SentenceSays lines shape m k (Ok q)
-          sentence_says q a b c d =
+          sentence_says few q a b c d =
               record {
                 places = take n places;
                 summed = placed;
                 says = record {
                   m_is = omega (arith, nodes_is);
                   k_is = omega (arith, special_is);
+                  few_special = omega (arith, special_is);
                   long = c ∙ ap (λ (x : Sums). x.length) v.sums;
                   nodes = d ∙ written_is;
                 };

@@ -40,7 +40,7 @@ module _ (lines : List PassedLine) where
       record {
         length_most = omega (arith, s.length_most, q.length_bound);
         nodes_most = omega (arith, s.nodes_most, q.records.m_bound);
-        specials_most = omega (arith, s.specials_most, q.records.k_bound);
+        specials_most = omega (arith, s.specials_most, q.specials_bound);
       }
 
   pub small_sums : (w : Sums) (os : List Origin) (n : ℕ) → SmallSums w n → SmallSums (summed lines w os) (n + length os)

@@ -94,6 +94,7 @@ size_refusal m k = cond (ltb 64 m) (Some why.ManyNodes) (cond (ltb 7 k) (Some wh
 pub record Grafts (lines : List PassedLine) (shape : Shape) (m k : ℕ) (places : List ℕ) (q : PassedRule) : Type 0 where
   pub m_is : q.records.m ≡ m
   pub k_is : q.records.k ≡ k
+  pub few_special : k ≤ 7
   pub long : q.text_length ≡ (sums_of lines (origins_in shape)).length
   pub nodes : q.records.nodes ≡ sets (unused 64) 0 (nodes_in lines shape places)
 

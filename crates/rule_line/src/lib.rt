@@ -61,6 +61,7 @@ pub struct PassedRule {
     pub text_length: usize,
     pub records: Records,
     ghost length_bound: { text_length ≤ 1000000 },
+    ghost specials_bound: { records.k ≤ 1000000 },
     ghost some_node: { 1 ≤ records.m },
     ghost nodes_long: { length records.nodes ≡ 64 },
     ghost offsets_bound: { OffsetsWithin 1000000 records.nodes },

@@ -54,7 +54,7 @@ pub fn walk(
             });
         }
         let set = level(automaton, word, table, marks, cache, held, j);
-        counted = advance(automaton, word, marks, &set, j, counted)?;
+        counted = advance(&automaton.letters, word, marks, &set, j, counted)?;
     }
     Some(WalkEnd { work: counted, end })
 }

@@ -5,7 +5,7 @@ use Rattle.std.proofs.lemmas.Result.{err_from_is_err_and}
 use Rattle.expression.specs.declared.Node.{Node}
 use Rattle.rule.specs.RuleAnswer.{rule_values, values}
 use Rattle.rule.specs.RuleComputed.{rule_answer}
-use Rattle.rule.proofs.Answered.{answered, readable, with_meaning}
+use Rattle.rule.proofs.Answered.{answered, rule_readable, with_meaning}
 use Rattle.rule.proofs.read.Goals as goal
 
 refused_value : (c : goal.After-from_residual) → rule_values c.from_residual.result ≡ rule_answer c.args.text.now
@@ -20,7 +20,7 @@ pub returns-in_err-m-clause-meaning : goal.returns-in_err-m-clause-meaning
 returns-in_err-m-clause-meaning c = with_meaning (refused_value c)
 
 pub read_text-requires : goal.read_text-requires
-read_text-requires c = readable c.args.text.now (sym c.check_rule.ensures ∙ c.in_ok-m.was)
+read_text-requires c = rule_readable c.args.text.now (sym c.check_rule.ensures ∙ c.in_ok-m.was)
 
 pub returns-clause-value : goal.returns-clause-value
 returns-clause-value c =

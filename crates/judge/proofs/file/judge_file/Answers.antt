@@ -1,5 +1,7 @@
 -- `judge_file` answers as `judge_file_answer`, and so by the grammar, the language and the collection. Assumes nothing.
+use Prim.Native.Nat.{◌-◌}
 use mathlib.Core.Path.{◌∙◌}
+use native.Mathlib.Omega.{arith}
 use Rattle.std.proofs.lemmas.Result.{err_from_is_err_and}
 use Rattle.judge.proofs.FileJoined.{after_refusal, line_records, after_acceptance}
 use Rattle.judge.proofs.FileResults.{clauses}
@@ -14,7 +16,9 @@ returns-in_err-read c =
 
 pub match_spans-requires : goal.match_spans-requires
 match_spans-requires c =
-    let x = c.in_ok-read in line_records c.args.file.now x.read x.ensures.value c.last-last.result.now c.last-last.ensures
+    let x = c.in_ok-read in
+    let l = c.last-last in
+    line_records c.args.file.now x.read x.ensures.value (x.read.count - 1) (omega arith) l.result.now l.ensures
 
 pub returns-in_err-judged : goal.returns-in_err-judged
 returns-in_err-judged c =

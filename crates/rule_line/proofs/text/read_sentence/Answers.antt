@@ -30,10 +30,10 @@ invariant_of-result-2 c =
     let w = c.sum_pieces-w in
     let p = passes c.requires c.bytes-bytes.ensures c.origins-origins.ensures w.ensures w.array_long c.if-replaced_m-gt-MOST_NODES.false _ c.read_text-source.ensures _
     (ap (λ (g : Grafting). g.nodes) c.graft-g.ensures) in
-    record { length_bound = p.0; some_node = p.1; nodes_long = omega arith; offsets_bound = p.2 }
+    record { length_bound = p.0; specials_bound = omega arith; some_node = p.1; nodes_long = omega arith; offsets_bound = p.2 }
 
 pub returns : goal.returns
 returns c =
     let w = c.sum_pieces-w in
     sentence_says c.requires c.bytes-bytes.ensures c.origins-origins.ensures w.ensures w.array_long c.if-replaced_m-gt-MOST_NODES.false _ c.read_text-source.ensures _
-    (ap (λ (g : Grafting). g.nodes) c.graft-g.ensures) _ refl refl refl refl
+    (ap (λ (g : Grafting). g.nodes) c.graft-g.ensures) c.if-replaced_k-gt-MOST_SPECIALS.false _ refl refl refl refl
