@@ -28,8 +28,9 @@ fn run<R: Read, W: Write>(reader: &mut R, writer: &mut W) -> Option<usize>
     ensures { Ran (R.remaining reader.old) (R.remaining reader.new) (W.contents writer.old) (W.contents writer.new) result }
 {
     let mut job = [0u8; MOST_BYTES];
-    let got = read_job(reader, &mut job)?;
+    // Before what may return: else it is cleared twice.
     let mut out = [0u8; MOST_TEXT];
+    let got = read_job(reader, &mut job)?;
     let n = answer(&job[..got], &mut out);
     Some(write_text(writer, &out[..n]))
 }

@@ -24,7 +24,9 @@ pub fn check_lines(file: &[u8]) -> Result<usize, Refusal>
         if n == MOST_LINES {
             return Err(Refusal::ManyLines);
         }
-        let line = read_line(rest).ok_or(Refusal::Malformed(n + 1))?;
+        let Some(line) = read_line(rest) else {
+            return Err(Refusal::Malformed(n + 1));
+        };
         if LAST_SECOND < line.second || line.second < last {
             return Err(Refusal::WrongSecond(n + 1));
         }

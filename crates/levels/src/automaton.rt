@@ -11,7 +11,7 @@ use crate::{States, next_states};
 // Bits, but for the last: the closed free moves, bit 128 * s + t where they lead from state s to state t; the entries of each letter's nodes,
 // bit 128 * c + s for the entry s of a node whose set has the letter c; the entries of the special nodes, bit s for the entry s of one; and
 // the first number of each special node's block in the table.
-#[derive(Drop)]
+#[derive(Clone, Copy)]
 pub struct Automaton {
     pub closed: [u64; 256],
     pub letters: [u64; 512],

@@ -10,7 +10,7 @@ use table::Block;
 
 // The exits to come, bit 256 * i + k where node i is left at number k; the entries of the nodes that are open, as they were entered; and those
 // of the open nodes that are full, as they are left at every number that is left. What the exits have for other nodes says nothing.
-#[derive(Drop)]
+#[derive(Clone, Copy)]
 pub struct Open {
     pub exits: [u64; 256],
     pub opened: States,

@@ -99,6 +99,13 @@ pub digits_text : {bytes shown : List ℕ} {len : ℕ} (x : ℕ)
     → (bytes ≡ decimal x ++ replicate (20 - length (decimal x)) 0) × (len ≡ length (decimal x)) → shown ≡ take len bytes → shown ≡ decimal x
 digits_text {len = len} x digits e = e ∙ ap (take len) digits.0 ∙ take_at (decimal x) (zeros (20 - length (decimal x))) len (sym digits.1)
 
+-- digit by digit
+pub digits_on : (l : List ℕ) (i : ℕ) → i < length l → drop i l ≡ (get_or l i 0 ∷ []) ++ drop (i + 1) l
+digits_on l i h = let e : suc i ≡ i + 1 = omega arith in drop-cons l i 0 h ∙ ap (λ (k : ℕ). get_or l i 0 ∷ drop k l) e
+
+pub digits_end : (l : List ℕ) (i : ℕ) → length l ≤ i → drop i l ≡ []
+digits_end l i h = drop_of_length-le l h
+
 -- ---- a line, field by field
 pub fields_on : (l : List ℕ) (i : ℕ) → i < length l → fields (drop i l) ≡ field (get_or l i 0) ++ fields (drop (i + 1) l)
 fields_on l i h = let e : suc i ≡ i + 1 = omega arith in ap fields (drop-cons l i 0 h) ∙ ap (λ (k : ℕ). field (get_or l i 0) ++ fields (drop k l)) e

@@ -11,23 +11,25 @@ pub struct Writer<'a> {
 }
 
 impl<'a> Writer<'a> {
-    // Writes a text behind what is written.
-    fn put(&mut self, text: &[u8])
-        requires { HasRoom self.old text.now }
-        ensures { Puts self.old text.now self.new }
+    // Writes a byte behind what is written.
+    fn put(&mut self, byte: u8)
+        requires { HasRoom self.old (byte ∷ []) }
+        ensures { Puts self.old (byte ∷ []) self.new }
     {
-        let end = self.at + text.len();
-        self.out[self.at..end].copy_from_slice(text);
-        self.at = end;
+        self.out[self.at] = byte;
+        self.at += 1;
     }
 
-    // Writes a tab and a number.
+    // Writes a tab and a number, digit by digit: they are so few that to copy them all at once takes longer.
     fn put_field(&mut self, x: u64)
         requires { HasRoom self.old (field x) }
         ensures { Puts self.old (field x) self.new }
     {
-        self.put(b"\t");
-        self.put(decimal::digits_of(x).as_slice());
+        self.put(b'\t');
+        let digits = decimal::digits_of(x);
+        for digit in digits.as_slice() {
+            self.put(*digit);
+        }
     }
 
     // Writes a line: its letter, and its fields.
@@ -35,11 +37,11 @@ impl<'a> Writer<'a> {
         requires { HasRoom self.old (line letter fields.now) }
         ensures { Puts self.old (line letter fields.now) self.new }
     {
-        self.put(&[letter]);
+        self.put(letter);
         for x in fields {
             self.put_field(*x);
         }
-        self.put(b"\n");
+        self.put(b'\n');
     }
 }
 

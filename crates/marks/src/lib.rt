@@ -24,7 +24,7 @@ fn size(set: &States) -> u64
 }
 
 // The places of one walk.
-#[derive(Drop)]
+#[derive(Clone, Copy)]
 pub struct Marks {
     pub places: [u64; 512],
 }

@@ -39,7 +39,9 @@ module _ {t : Tree} {nodes : List Node} {m : ℕ} {w : Word} {numbers whole spec
         spaced = blocks_spaced f.rising f.recorded first numbers f.short (omega arith) f.parts_fit;
       }
 
-  pub whole_beside : WholeApart t (length w) automaton.firsts numbers whole
+module _ {t : Tree} {nodes : List Node} {m : ℕ} {w : Word} {numbers whole special : ℕ} {firsts : List ℕ}
+    (f : Fillable t nodes m w numbers whole special) (first : FirstNumbers nodes m (length w) special firsts) where
+  pub whole_beside : WholeApart t (length w) firsts numbers whole
   whole_beside = whole_spaced f.rising f.recorded first numbers whole f.short f.rule_fits f.apart
 
 module _ {t : Tree} {nodes : List Node} {m : ℕ} {lefts : List ℕ} {automaton : Automaton} {w : List ℕ} {numbers : ℕ} (S : Setting t nodes m lefts automaton w numbers) where

@@ -1,5 +1,5 @@
 // The first number of each special node's block: the blocks stand one after another by rising byte offset.
-ghost use Rattle.std.specs.Prelude.{◌≡◌, ◌^◌, ◌≤◌};
+ghost use Rattle.std.specs.Prelude.{◌≡◌, ◌^◌, ◌≤◌, replicate};
 ghost use Rattle.owners.specs.Blocks.{specials_before, FirstNumbers};
 
 use expression::records::Records;
@@ -18,14 +18,14 @@ fn specials_before(records: &Records, bound: usize) -> usize
     count
 }
 
-// The first number of each special node's block for a word of n events, where the first of the blocks begins at number `special`; 0 of a
-// node that has none.
-pub fn first_numbers(records: &Records, n: usize, special: usize) -> [u64; 64]
-    requires { (n ≤ 255) × (special ≤ 2 ^ 60) }
-    ensures { FirstNumbers records.now.nodes records.now.m n special result }
+// Fills in the first number of each special node's block for a word of n events, where the first of the blocks begins at number `special`; 0
+// of a node that has none.
+pub fn first_numbers(records: &Records, n: usize, special: usize, firsts: &mut [u64; 64])
+    requires bounds { (n ≤ 255) × (special ≤ 2 ^ 60) }
+    requires cleared { firsts.old ≡ replicate 64 0 }
+    ensures { FirstNumbers records.now.nodes records.now.m n special firsts.new }
 {
     let stride = table::block_length(n);
-    let mut firsts = [0u64; 64];
     for i in 0..records.m {
         let node = records.nodes[i];
         if is_special(node.kind) {
@@ -33,5 +33,4 @@ pub fn first_numbers(records: &Records, n: usize, special: usize) -> [u64; 64]
             firsts[i] = first as u64;
         }
     }
-    firsts
 }

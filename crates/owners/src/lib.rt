@@ -1,7 +1,6 @@
 // The owners of a rule: each special node in its turn, inner ones first, and the whole rule last, fills its block of the span table.
 #![tactic(auto)]
 
-mod automaton;
 mod blocks;
 mod sides;
 mod turns;
@@ -10,10 +9,11 @@ ghost use Rattle.std.specs.Prelude.{length, is_none};
 ghost use Rattle.marks.specs.Works.{count_of};
 ghost use Rattle.owners.specs.Filling.{rule_of, Fillable, FilledTable};
 
-use crate::automaton::build;
+use crate::blocks::first_numbers;
 use crate::sides::left_sides;
 use crate::turns::Owners;
 use expression::records::Records;
+use levels::automaton::Automaton;
 use marks::counting::Work;
 
 // Fills the blocks of the rule of the records: the whole rule's from number `whole` of the table on, and those of its
@@ -31,7 +31,17 @@ pub fn fill(
         table.old table.new (count_of limit result) (is_none result) }
 {
     let lefts = left_sides(records);
-    let automaton = build(records, &lefts, word.len(), special);
+    // Filled where it stands: an automaton that a function hands out is copied on the way.
+    let mut automaton = Automaton {
+        closed: [0; 256],
+        letters: [0; 512],
+        specials: [0; 2],
+        firsts: [0; 64],
+    };
+    moves::closed_moves(records, &lefts, &mut automaton.closed);
+    moves::letter_entries(records, &mut automaton.letters);
+    moves::special_entries(records, &mut automaton.specials);
+    first_numbers(records, word.len(), special, &mut automaton.firsts);
     let owners = Owners {
         records,
         lefts: &lefts,

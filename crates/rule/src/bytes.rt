@@ -18,14 +18,15 @@ pub fn is_start(b: u8) -> bool
     matches!(b, b'!' | b'(' | b'[') || is_leaf(b)
 }
 
-// A byte that a rule text may have.
+// A byte that a rule text may have. Letters are told first, as most bytes are letters.
 pub fn is_rule_byte(b: u8) -> bool
     ensures { result ≡ is_rule_byte b }
 {
-    matches!(
-        b,
-        b'0' | b'1' | b'|' | b'&' | b'!' | b'*' | b'(' | b')' | b'[' | b']' | b'.'
-    ) || event::is_event(b)
+    event::is_event(b)
+        || matches!(
+            b,
+            b'0' | b'1' | b'|' | b'&' | b'!' | b'*' | b'(' | b')' | b'[' | b']' | b'.'
+        )
 }
 
 // The offset of the first byte that no rule text has, if there is one.

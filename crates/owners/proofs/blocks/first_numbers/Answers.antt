@@ -1,6 +1,6 @@
 -- `first_numbers` has the first numbers of all nodes' blocks. Assumes nothing.
 use native.Mathlib.Omega.{arith}
-use mathlib.Core.Path.{refl, sym, ◌∙◌}
+use mathlib.Core.Path.{sym, ◌∙◌}
 use Rattle.owners.proofs.FirstLoops.{special_first, plain_first, placing_begins, placing_on, placing_past}
 use Rattle.owners.proofs.FirstLoops.{placing_same}
 use Rattle.owners.proofs.blocks.first_numbers.Goals as goal
@@ -8,7 +8,7 @@ use Rattle.owners.proofs.blocks.first_numbers.Goals.{then-is_special, else-is_sp
 
 pub loop-i-init : goal.loop-i-init
 loop-i-init c =
-    placing_begins refl
+    placing_begins c.requires.cleared
 
 pub loop-i-preserved : goal.loop-i-preserved
 loop-i-preserved c =

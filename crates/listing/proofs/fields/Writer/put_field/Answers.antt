@@ -1,15 +1,27 @@
--- `put_field` writes the tab and then the digits. Assumes nothing.
-use Rattle.std.proofs.Common.{ap, arith, length, ◌∷◌}
-use Rattle.listing.proofs.WrittenLaws.{digits_text, written_long, puts_as, puts_then}
+-- `put_field` writes the tab, and then the digits one after another. Assumes nothing.
+use Rattle.std.proofs.Common.{ap, sym, arith, refl, [], ◌∷◌, ◌+◌, get_or, drop}
+use Rattle.listing.proofs.WrittenLaws.{digits_text, digits_on, digits_end, part_start, part_more, part_piece_room, part_done}
 use Rattle.listing.proofs.fields.Writer.put_field.Goals as goal
 
-pub put-requires-2 : goal.put-requires-2
-put-requires-2 c =
-    let d = digits_text c.args.x c.digits_of.ensures.value c.as_slice.ensures in
-    let w = c.put.ensures.written in
-    omega (arith, c.requires, ap length d, w.upto, written_long w)
+pub put-requires : goal.put-requires
+put-requires c = omega arith
+
+pub loop-digit-init : goal.loop-digit-init
+loop-digit-init c =
+    part_more (part_start c.args.self.now _) _ (ap (9 ∷◌) (sym (digits_text c.args.x c.digits_of-digits.ensures.value c.as_slice-digit-items.ensures))) c.put.ensures
+
+pub put-requires-in-loop-digit : goal.put-requires-in-loop-digit
+put-requires-in-loop-digit c =
+    let l = c.loop-digit in
+    let items = c.as_slice-digit-items.result.now in
+    part_piece_room l.invariant (get_or items l.digit-index 0 ∷ []) (drop (l.digit-index + 1) items) (digits_on items l.digit-index (omega arith)) c.requires
+
+pub loop-digit-preserved : goal.loop-digit-preserved
+loop-digit-preserved c =
+    let l = c.loop-digit in
+    part_more l.invariant _ (digits_on _ l.digit-index (omega arith)) c.put-in-loop-digit.ensures
 
 pub returns : goal.returns
 returns c =
-    let d = digits_text c.args.x c.digits_of.ensures.value c.as_slice.ensures in
-    puts_as (ap (9 ∷◌) d) (puts_then c.put.ensures c.put-2.ensures)
+    let l = c.loop-digit in
+    part_done l.invariant (digits_end _ l.digit-index (omega arith))
