@@ -12,6 +12,7 @@ pub struct Writer<'a> {
 
 impl<'a> Writer<'a> {
     // Writes a byte behind what is written.
+    #[inline(always)]
     fn put(&mut self, byte: u8)
         requires { HasRoom self.old (byte ∷ []) }
         ensures { Puts self.old (byte ∷ []) self.new }
@@ -21,6 +22,7 @@ impl<'a> Writer<'a> {
     }
 
     // Writes a tab and a number, digit by digit: they are so few that to copy them all at once takes longer.
+    #[inline(always)]
     fn put_field(&mut self, x: u64)
         requires { HasRoom self.old (field x) }
         ensures { Puts self.old (field x) self.new }
@@ -32,7 +34,8 @@ impl<'a> Writer<'a> {
         }
     }
 
-    // Writes a line: its letter, and its fields.
+    // Writes a line: its letter, and its fields. Inlined, since a long list has 32,896 lines, and a writer that is lent stands in memory.
+    #[inline(always)]
     pub fn put_line(&mut self, letter: u8, fields: &[u64])
         requires { HasRoom self.old (line letter fields.now) }
         ensures { Puts self.old (line letter fields.now) self.new }
