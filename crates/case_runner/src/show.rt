@@ -105,17 +105,10 @@ fn print_elements<W: Write, T: Copy + Into<u64>>(out: &mut W, elements: &[T]) {
     }
 }
 
-fn print_day<W: Write>(out: &mut W, verdict: Verdict, n: usize) {
-    print(out, b"day");
-    print_verdict(out, verdict);
-    print_number(out, b'\t', n);
-}
-
 fn print_outcome<W: Write>(out: &mut W, outcome: Result<usize, day::Refusal>) {
-    match outcome {
-        Ok(n) => print_day(out, Verdict::acceptance(0, 0), n),
-        Err(refusal) => print_day(out, Verdict::from(refusal), 0),
-    }
+    print(out, b"day");
+    print_verdict(out, day::outcome_verdict(outcome));
+    print_number(out, b'\t', outcome.unwrap_or(0));
 }
 
 // Reads a day file into the two buffers and prints the answer, and the buffers whole.

@@ -5,7 +5,7 @@ mod line;
 mod passes;
 
 ghost use Rattle.std.specs.Prelude.{◌≡◌};
-ghost use Rattle.day.specs.DayAnswer.{day_values, refusal_verdict};
+ghost use Rattle.day.specs.DayAnswer.{day_values, refusal_verdict, outcome_verdict};
 ghost use Rattle.day.specs.DayComputed.{day_answer};
 ghost use Rattle.day.specs.DayMeaning.{DayMeaning};
 
@@ -37,6 +37,16 @@ impl From<Refusal> for Verdict {
             Refusal::ManyLines => Verdict::refusal(14, 256),
             Refusal::ShortBuffer => Verdict::refusal(15, 0),
         }
+    }
+}
+
+// Number, place, found and count of an answer.
+pub fn outcome_verdict(outcome: Result<usize, Refusal>) -> Verdict
+    ensures { result ≡ outcome_verdict outcome }
+{
+    match outcome {
+        Ok(_) => Verdict::acceptance(0, 0),
+        Err(refusal) => Verdict::from(refusal),
     }
 }
 

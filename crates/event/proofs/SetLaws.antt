@@ -72,6 +72,28 @@ index_letter i h =
 pub index_apart : (b x : ℕ) → T (is_event b) → T (is_event x) → (x ≡ b → ⊥) → letter_index x ≡ letter_index b → ⊥
 index_apart b x h g n e = n (sym (letter_index_lem x g).1 ∙ ap letter_at e ∙ (letter_index_lem b h).1)
 
+-- the bit of a letter, by its run; a byte that is no letter has none
+pub capital_bounds : (b : ℕ) → is_event b ≡ true → b ≤ 90 → 65 ≤ b
+capital_bounds b e h = ⊎_elim (λ x. x.0) (λ x. absurd (omega (arith, x))) (runs b (T_of (is_event b) e))
+
+pub small_bounds : (b : ℕ) → is_event b ≡ true → 90 < b → (97 ≤ b) × (b ≤ 122)
+small_bounds b e h = ⊎_elim (λ x. absurd (omega (arith, x))) (λ x. x) (runs b (T_of (is_event b) e))
+
+pub capital_bit : (b : ℕ) → is_event b ≡ true → b ≤ 90 → 2 ^ (b - 65) ≡ bit_of b
+unfolding bit_of
+capital_bit b e h = rw (e, capital_index b h)
+
+pub small_bit : (b : ℕ) → is_event b ≡ true → 90 < b → 2 ^ (b - 97 + 26) ≡ bit_of b
+unfolding bit_of
+small_bit b e h =
+    let n = small_bounds b e h in
+    let z : b - 97 + 26 ≡ b - 71 = omega arith in
+    rw (e, small_index b h, z)
+
+pub foreign_bit : (b : ℕ) → is_event b ≡ false → 0 ≡ bit_of b
+unfolding bit_of
+foreign_bit b e = rw e
+
 -- ---- what each set holds
 pub holds_event : (c : LetterSet) (x : ℕ) → T (holds c x) → T (is_event x)
 unfolding holds

@@ -76,6 +76,13 @@ in_set a l s e =
     absurd (no_bit (s % 64) (get_or a (s / 64) 0) z e))
     (cases_lt s 128)
 
+-- ---- sets of the same numbers
+
+pub same_law : (a r : List ℕ) → get_or r 0 0 ≡ get_or a 0 0 → get_or r 1 0 ≡ get_or a 1 0 → (s : ℕ) → s < 128 → bit_at r s ≡ bit_at a s
+same_law a r e f =
+    by_half (λ (s : ℕ). bit_at r s ≡ bit_at a s) (λ s l. low_bit r s l ∙ ap (has_bit s) e ∙ sym (low_bit a s l))
+    (λ s l. high_bit r s l ∙ ap (has_bit s) f ∙ sym (high_bit a s l))
+
 -- ---- how many states are left
 
 -- what is left of the states shrinks where a missing one is put

@@ -40,10 +40,18 @@ pair_law m j =
     (λ s l. high_bit p s l ∙ sym (row_high m j s l))
 
 -- the states of a set, by its two numbers
-pub count_law : (a : List ℕ)
+pub set_count_law : (a : List ℕ)
     → tally_below 128 (bit_at a) ≡ tally_below 64 (λ (b : ℕ). has_bit b (get_or a 0 0)) + tally_below 64 (λ (b : ℕ). has_bit b (get_or a 1 0))
-count_law a =
+set_count_law a =
     tally_add 64 64 (bit_at a) ∙ ap₂ (λ (x y : ℕ). x + y) (tally_same 64 _ _ (low_bit a)) (tally_same 64 _ _ (high_bit a))
+
+-- the places of number j, by its two numbers
+pub count_law : (a : List ℕ) (j : ℕ)
+    → tally_below 128 (λ (s : ℕ). bit_at a (128 * j + s))
+    ≡ tally_below 64 (λ (b : ℕ). has_bit b (get_or a (2 * j) 0)) + tally_below 64 (λ (b : ℕ). has_bit b (get_or a (2 * j + 1) 0))
+count_law a j =
+    tally_add 64 64 (λ (s : ℕ). bit_at a (128 * j + s))
+    ∙ ap₂ (λ (x y : ℕ). x + y) (tally_same 64 _ _ (row_low a j)) (tally_same 64 _ _ (row_high a j))
 
 -- the places up to number j, and those of j
 pub tally_level : (b : List ℕ) (j : ℕ)

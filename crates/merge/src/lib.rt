@@ -7,7 +7,7 @@ mod events;
 ghost use Rattle.std.specs.Prelude.{◌≡◌, IfOk, IfErr};
 ghost use Rattle.day.specs.DayLines.{events};
 ghost use Rattle.day.specs.DayComputed.{day_events};
-ghost use Rattle.merge.specs.MergeAnswer.{refusal_verdict, merge_values};
+ghost use Rattle.merge.specs.MergeAnswer.{refusal_verdict, outcome_verdict, merge_values};
 ghost use Rattle.merge.specs.MergeComputed.{after_both, merge_answer, paired, IsRefused};
 ghost use Rattle.merge.specs.MergeMeaning.{MergeMeaning};
 ghost use Rattle.merge.specs.declared.Refusal.TheVariants as why;
@@ -42,6 +42,16 @@ impl From<Refusal> for Verdict {
             Refusal::Day(reason) => Verdict::from(reason),
             Refusal::ManyEvents => Verdict::refusal(22, 0),
         }
+    }
+}
+
+// Number, place, found and count of an answer.
+pub fn outcome_verdict(outcome: Result<usize, Refusal>) -> Verdict
+    ensures { result ≡ outcome_verdict outcome }
+{
+    match outcome {
+        Ok(_) => Verdict::acceptance(0, 0),
+        Err(refusal) => Verdict::from(refusal),
     }
 }
 

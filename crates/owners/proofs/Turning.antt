@@ -237,6 +237,10 @@ module _ {t : Tree} {w : Word} {firsts : List ℕ} {limit : ℕ} {a : List ℕ} 
           bounded = s.bounded;
         }
 
+    -- the same by other names
+    pub turning_same : {b : List ℕ} {c : ℕ} → b ≡ lent → c ≡ count → Turning t w firsts limit a b c i
+    turning_same d e = rw (d, e) g
+
     pub turning_ends : size t ≤ i → SpecialsTurned t w firsts limit a lent count false
     turning_ends h =
         let e : i ≡ size t = omega (arith, g.few) in

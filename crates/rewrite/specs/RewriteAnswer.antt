@@ -33,6 +33,11 @@ abbrev pub refusal_verdict : Refusal → Verdict
 refusal_verdict (why.Rule r) = reader.refusal_verdict r
 refusal_verdict why.ShortBuffer = verdict.refused 15 0
 
+-- number, place, found and count of what the code answers
+abbrev pub outcome_verdict : Result ℕ Refusal → Verdict
+outcome_verdict (Ok n) = verdict.accepted 0 0
+outcome_verdict (Err r) = refusal_verdict r
+
 -- a verdict, with n and the buffer
 abbrev pub told : Verdict → ℕ → List ℕ → RewriteAnswer
 told v n out = record { number = v.number; place = v.place; found = v.found; count = v.count; n = n; out = out }

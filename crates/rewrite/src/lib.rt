@@ -6,7 +6,7 @@ mod runs;
 ghost use Rattle.std.specs.Prelude.{◌≡◌};
 ghost use Rattle.rewrite.specs.declared.Refusal.TheVariants.{Rule};
 ghost use Rattle.rewrite.specs.Rewritten.{rewritten};
-ghost use Rattle.rewrite.specs.RewriteAnswer.{refusal_verdict, rewrite_values};
+ghost use Rattle.rewrite.specs.RewriteAnswer.{refusal_verdict, outcome_verdict, rewrite_values};
 ghost use Rattle.rewrite.specs.RewriteComputed.{written, rewrite_answer};
 ghost use Rattle.rewrite.specs.RewriteMeaning.{RewriteMeaning};
 
@@ -38,6 +38,16 @@ impl From<Refusal> for Verdict {
             Refusal::Rule(why) => Verdict::from(why),
             Refusal::ShortBuffer => Verdict::refusal(15, 0),
         }
+    }
+}
+
+// Number, place, found and count of an answer.
+pub fn outcome_verdict(outcome: Result<usize, Refusal>) -> Verdict
+    ensures { result ≡ outcome_verdict outcome }
+{
+    match outcome {
+        Ok(_) => Verdict::acceptance(0, 0),
+        Err(refusal) => Verdict::from(refusal),
     }
 }
 

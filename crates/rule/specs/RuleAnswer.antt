@@ -58,6 +58,11 @@ refusal_verdict (why.DoubleStar n) = verdict.refused 21 n
 refusal_verdict why.ManyNodes = verdict.refused 5 0
 refusal_verdict why.ManySpecials = verdict.refused 6 0
 
+-- number, place, found and count of what the code answers
+abbrev pub outcome_verdict : Result Records Refusal → Verdict
+outcome_verdict (Ok r) = verdict.accepted 0 0
+outcome_verdict (Err r) = refusal_verdict r
+
 -- a verdict, with m, k and the records
 abbrev pub told : Verdict → ℕ → ℕ → List Node → RuleAnswer
 told v m k ns =

@@ -11,7 +11,7 @@ pub mod stars;
 ghost use Rattle.std.specs.Prelude.{◌≡◌, ◌≤◌, length, MatchResult, Ok, Err};
 ghost use Rattle.expression.specs.Scan.{scanned};
 ghost use Rattle.rule.specs.declared.Refusal.TheVariants.{NoSentence};
-ghost use Rattle.rule.specs.RuleAnswer.{rule_values, refusal_verdict};
+ghost use Rattle.rule.specs.RuleAnswer.{rule_values, refusal_verdict, outcome_verdict};
 ghost use Rattle.rule.specs.RuleComputed.{sentence_outcome, size_outcome, rule_outcome, stored_outcome, rule_answer};
 ghost use Rattle.rule.specs.RuleMeaning.{RuleMeaning};
 
@@ -54,6 +54,16 @@ impl From<Refusal> for Verdict {
             Refusal::ManyNodes => Verdict::refusal(5, 0),
             Refusal::ManySpecials => Verdict::refusal(6, 0),
         }
+    }
+}
+
+// Number, place, found and count of an answer.
+pub fn outcome_verdict(outcome: &Result<Records, Refusal>) -> Verdict
+    ensures { result ≡ outcome_verdict outcome.now }
+{
+    match outcome {
+        Ok(_) => Verdict::acceptance(0, 0),
+        Err(refusal) => Verdict::from(*refusal),
     }
 }
 

@@ -13,7 +13,7 @@ use Rattle.std.specs.List.{AllZip}
 use Rattle.expression.specs.Tree.{size}
 use Rattle.rule_line.specs.Lines.{Line, LineNodes, line_nodes, told_line, unused_line, unused_lines}
 use Rattle.rule_line.specs.Keeping.{Keeps, Each, Bounded, Kept}
-use Rattle.rule_line.specs.declared.PassedLine.{PassedLine}
+use Rattle.rule_line.specs.Passed.{PassedLine}
 use Rattle.rule_line.proofs.LineNames.{unlike, has_name, sound_none, sound_more}
 use Rattle.rule_file.specs.Kept.{kept_nodes}
 use Rattle.rule_file.specs.Turns.{Passes}

@@ -9,7 +9,7 @@ use lib.Seq.{take-suc-set}
 use Rattle.std.specs.Prelude.{Ok, Err}
 use Rattle.rule_line.specs.Lines.{Line, LineNodes, told_line, unused_lines}
 use Rattle.rule_line.specs.Keeping.{Kept}
-use Rattle.rule_line.specs.declared.PassedLine.{PassedLine}
+use Rattle.rule_line.specs.Passed.{PassedLine}
 use Rattle.rule_line.specs.declared.Refusal.{Refusal}
 use Rattle.rule_line.specs.declared.Refusal.TheVariants.{OtherForm}
 use Rattle.verdict.specs.Verdicts.{accepted}

@@ -5,7 +5,7 @@ pub mod accepted;
 mod turn;
 
 ghost use Rattle.std.specs.Prelude.{◌≡◌};
-ghost use Rattle.rule_file.specs.FileAnswer.{file_values, refusal_verdict};
+ghost use Rattle.rule_file.specs.FileAnswer.{file_values, refusal_verdict, outcome_verdict};
 ghost use Rattle.rule_file.specs.FileComputed.{file_answer};
 ghost use Rattle.rule_file.specs.FileMeaning.{FileMeaning};
 
@@ -29,6 +29,16 @@ impl From<LineRefusal> for Verdict {
 
     fn from(refused: LineRefusal) -> Verdict {
         Verdict::refusal(refused.refusal.number(), refused.line as u64)
+    }
+}
+
+// Number, place, found and count of an answer.
+pub fn outcome_verdict(outcome: &Result<RuleFile, LineRefusal>) -> Verdict
+    ensures { result ≡ outcome_verdict outcome.now }
+{
+    match outcome {
+        Ok(_) => Verdict::acceptance(0, 0),
+        Err(refusal) => Verdict::from(*refusal),
     }
 }
 

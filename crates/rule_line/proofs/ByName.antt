@@ -18,7 +18,7 @@ use Rattle.rule_line.specs.LineComputed.{same_text, has, text_of, tree_named, kn
 use Rattle.rule_line.specs.Coding.{find_line, origin_found, origin_of, is_known, rule_at, rule_named}
 use Rattle.rule_line.specs.Keeping.{Keeps, Each}
 use Rattle.rule_line.specs.Summing.{summed_one, summed, no_sums}
-use Rattle.rule_line.specs.declared.PassedLine.{PassedLine}
+use Rattle.rule_line.specs.Passed.{PassedLine}
 use Rattle.rule_line.specs.declared.PassedRule.{PassedRule}
 use Rattle.rule_line.specs.declared.shape.Origin.{Origin}
 use Rattle.rule_line.specs.declared.sums.Sums.{Sums}

@@ -19,7 +19,7 @@ use Rattle.replacement.proofs.PieceLaws.{of_byte, at_open, skipped}
 use Rattle.replacement.proofs.NameLaws.{name_found, both}
 use Rattle.rule_line.specs.LineComputed.{name_of, body_of, rule_of, is_line}
 use Rattle.rule_line.specs.Coding.{FieldsOf, code_of, origin_of, Taken, Cut, pushed}
-use Rattle.rule_line.specs.declared.PassedLine.{PassedLine}
+use Rattle.rule_line.specs.Passed.{PassedLine}
 use Rattle.rule_line.specs.declared.line.LineFields.{LineFields}
 use Rattle.rule_line.specs.declared.shape.Origin.{Origin}
 use Rattle.rule_line.specs.declared.shape.Origin.TheVariants.{Own}

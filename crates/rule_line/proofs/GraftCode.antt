@@ -14,7 +14,7 @@ use Rattle.expression.specs.declared.Node.{Node}
 use Rattle.replacement.specs.Graft.{shift_nodes}
 use Rattle.rule_line.specs.Offsets.{no_node}
 use Rattle.rule_line.specs.Coding.{is_epsilon, rule_named, nodes_for, grown, Room, grafted_nodes, no_nodes, InShape, Graftable}
-use Rattle.rule_line.specs.declared.PassedLine.{PassedLine}
+use Rattle.rule_line.specs.Passed.{PassedLine}
 use Rattle.rule_line.specs.declared.PassedRule.{PassedRule}
 use Rattle.rule_line.specs.declared.graft.Grafting.{Grafting}
 use Rattle.rule_line.specs.declared.shape.Origin.{Origin}

@@ -24,7 +24,7 @@ use Rattle.replacement.proofs.PieceLaws.{Names}
 use Rattle.rule_line.specs.Lines.{Line}
 use Rattle.rule_line.specs.LineComputed.{has, knows, text_of, tree_named, replaced_by}
 use Rattle.rule_line.specs.Coding.{origin_of, rule_named, nodes_for, grafted_nodes}
-use Rattle.rule_line.specs.declared.PassedLine.{PassedLine}
+use Rattle.rule_line.specs.Passed.{PassedLine}
 use Rattle.rule_line.specs.declared.shape.Origin.{Origin}
 use Rattle.rule_line.specs.declared.shape.Origin.TheVariants.{Own}
 use Rattle.rule_line.specs.declared.PassedRule.{PassedRule}

@@ -1,12 +1,15 @@
 -- The names of the lines above a line. Assumes nothing.
-use Prim.Native.Nat.{ℕ}
+use Prim.Native.Nat.{ℕ, suc, ◌+◌, ◌≤◌, ◌<◌}
+use native.Mathlib.Omega.{arith}
 use mathlib.Core.Path.{◌≡◌, refl, sym, ap, ap₂, subst, ◌∙◌}
 use mathlib.Core.Logic.{◌⊎◌, inl, inr}
 use mathlib.Core.Bool.{Bool, true, false, cond, ◌&&◌, true≢false}
 use mathlib.Core.List.Memᴰ
 use mathlib.Core.List.{List, [], ◌∷◌, ◌++◌, Memᴰ}
 use lib.Dec.{eqb}
-use borrow.Author.Tests.{eqb-true, eq-eqb}
+use lib.ListN.{length, get_or, drop, drop_of_length-le}
+use borrow.Author.Tests.{eqb-true, eq-eqb, ne_eqb}
+use Rattle.event.proofs.Tails.{rest_at}
 use Rattle.event.proofs.Tests.{and_split, T_of, of_T, choose}
 use Rattle.expression.specs.Grammar.{Alt, Reads, Sentence}
 use Rattle.replacement.specs.Pieces.{Piece, own, named}
@@ -30,6 +33,32 @@ same_is (b ∷ x) (c ∷ y) e =
 same_self : (x : List ℕ) → same_text x x ≡ true
 same_self [] = refl
 same_self (b ∷ x) = rw (eq-eqb b b refl) (same_self x)
+
+-- ---- two texts byte by byte
+pub same_length : (x y : List ℕ) → (length x ≡ length y → ⊥) → same_text x y ≡ false
+same_length [] [] h = absurd (h refl)
+same_length [] (c ∷ y) h = refl
+same_length (b ∷ x) [] h = refl
+same_length (b ∷ x) (c ∷ y) h = go (eqb b c) (same_length x y (λ e. h (ap suc e)))
+  where
+    go : (t : Bool) → same_text x y ≡ false → (t && same_text x y) ≡ false
+    go true e = e
+    go false e = refl
+
+at_byte : (x y : List ℕ) (i : ℕ) → i < length x → length x ≡ length y
+    → same_text (drop i x) (drop i y) ≡ (eqb (get_or x i 0) (get_or y i 0) && same_text (drop (i + 1) x) (drop (i + 1) y))
+at_byte x y i h e = ap₂ same_text (rest_at x i h) (rest_at y i (omega arith))
+
+pub same_on : (x y : List ℕ) (i : ℕ) → i < length x → length x ≡ length y → get_or x i 0 ≡ get_or y i 0
+    → same_text (drop i x) (drop i y) ≡ same_text (drop (i + 1) x) (drop (i + 1) y)
+same_on x y i h e f = at_byte x y i h e ∙ rw (eq-eqb (get_or x i 0) (get_or y i 0) f)
+
+pub same_stops : (x y : List ℕ) (i : ℕ) → i < length x → length x ≡ length y → (get_or x i 0 ≡ get_or y i 0 → ⊥)
+    → same_text (drop i x) (drop i y) ≡ false
+same_stops x y i h e f = at_byte x y i h e ∙ rw (ne_eqb (get_or x i 0) (get_or y i 0) f)
+
+pub same_ends : (x y : List ℕ) (i : ℕ) → length x ≤ i → length x ≡ length y → same_text (drop i x) (drop i y) ≡ true
+same_ends x y i h e = let g : length y ≤ i = omega arith in ap₂ same_text (drop_of_length-le x h) (drop_of_length-le y g)
 
 -- ---- `has` finds a name exactly where a line has it
 mem_has : (ls : List Line) (l : Line) → Memᴰ l ls → has ls l.name ≡ true

@@ -32,7 +32,7 @@ use Rattle.rule_line.specs.LineComputed.{has, text_of, tree_named, knows, bad, g
 use Rattle.rule_line.specs.Coding.{origin_of, is_known, Cut}
 use Rattle.rule_line.specs.Summing.{no_sums, summed, Summed}
 use Rattle.rule_line.specs.Keeping.{Bounded, Kept, sums_of, origins_in, nodes_in, Sentence, SentenceSays, RuleSays}
-use Rattle.rule_line.specs.declared.PassedLine.{PassedLine}
+use Rattle.rule_line.specs.Passed.{PassedLine}
 use Rattle.rule_line.specs.declared.PassedRule.{PassedRule}
 use Rattle.rule_line.specs.declared.Refusal.{Refusal}
 use Rattle.rule_line.specs.declared.Refusal.TheVariants.{ManyNodes, ManySpecials}

@@ -20,7 +20,7 @@ use Rattle.rule_line.specs.Offsets.{no_node, OffsetsWithin}
 use Rattle.rule_line.specs.Coding.{InShape, grafted_nodes, Graftable, grown, no_nodes}
 use Rattle.rule_line.specs.Summing.{SmallSums, no_sums, Summed}
 use Rattle.rule_line.specs.Keeping.{sums_of, origins_in, nodes_in, Fitting, Sentence, SentenceSays}
-use Rattle.rule_line.specs.declared.PassedLine.{PassedLine}
+use Rattle.rule_line.specs.Passed.{PassedLine}
 use Rattle.rule_line.specs.declared.PassedRule.{PassedRule}
 use Rattle.rule_line.specs.declared.shape.Origin.{Origin}
 use Rattle.rule_line.specs.declared.shape.Shape.{Shape}

@@ -17,7 +17,7 @@ use Rattle.rule_line.specs.LineComputed.{has, text_of, tree_named}
 use Rattle.rule_line.specs.Offsets.{OffsetsWithin}
 use Rattle.rule_line.specs.Coding.{rule_at}
 use Rattle.rule_line.specs.Keeping.{Keeps, Each}
-use Rattle.rule_line.specs.declared.PassedLine.{PassedLine}
+use Rattle.rule_line.specs.Passed.{PassedLine}
 use Rattle.rule_line.proofs.ByName.{found, rule_found, Told}
 use Rattle.rule_line.proofs.GraftWritten.{Below}
 

@@ -10,7 +10,7 @@ use lib.Seq.{take-suc, get_or-set_same, get_or-set_other}
 use Rattle.std.specs.Prelude.{Option, Some, None}
 use Rattle.rule_line.specs.Coding.{rule_named}
 use Rattle.rule_line.specs.Summing.{SmallSums, summed_one, summed, no_sums}
-use Rattle.rule_line.specs.declared.PassedLine.{PassedLine}
+use Rattle.rule_line.specs.Passed.{PassedLine}
 use Rattle.rule_line.specs.declared.PassedRule.{PassedRule}
 use Rattle.rule_line.specs.declared.shape.Origin.{Origin}
 use Rattle.rule_line.specs.declared.shape.Origin.TheVariants.{Own}

@@ -8,7 +8,8 @@ use Rattle.expression.specs.declared.Node.{Node}
 use Rattle.rule.specs.RuleAnswer.{unused}
 use Rattle.replacement.specs.Graft.{shift_nodes}
 use Rattle.replacement.specs.Pieces.{Piece, own, named, pieces, shape_of}
-use Rattle.rule_line.specs.declared.PassedLine.{PassedLine}
+use Rattle.rule_line.specs.Passed.{PassedLine}
+use Rattle.rule_line.specs.declared.NamedLine.{NamedLine}
 use Rattle.rule_line.specs.declared.PassedRule.{PassedRule}
 use Rattle.rule_line.specs.declared.graft.Grafting.{Grafting}
 use Rattle.rule_line.specs.LineComputed.{same_text, name_of, body_of, rule_of, is_line}
@@ -27,8 +28,8 @@ pub record FieldsOf (s : List ℕ) (f : LineFields) : Type 0 where
   pub shorter : length f.rest.now < length s
 
 -- the first of the lines whose name is n
-abbrev pub find_line : List PassedLine → List ℕ → Option ℕ
-find_line lines n = position (λ (l : PassedLine). same_text l.name.now n) lines
+abbrev pub find_line : {R : Type 0} → List (NamedLine R) → List ℕ → Option ℕ
+find_line {R} lines n = position (λ (l : NamedLine R). same_text l.name.now n) lines
 
 -- ---- the pieces
 -- a piece's byte in the shape, and its origin

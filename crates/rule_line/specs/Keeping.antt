@@ -14,7 +14,7 @@ use Rattle.rule_line.specs.LineComputed.{has, bad, good, judged}
 use Rattle.rule_line.specs.Offsets.{OffsetsWithin}
 use Rattle.rule_line.specs.Coding.{grafted_nodes}
 use Rattle.rule_line.specs.Summing.{summed, no_sums, Summed}
-use Rattle.rule_line.specs.declared.PassedLine.{PassedLine}
+use Rattle.rule_line.specs.Passed.{PassedLine}
 use Rattle.rule_line.specs.declared.PassedRule.{PassedRule}
 use Rattle.rule_line.specs.declared.shape.Origin.{Origin}
 use Rattle.rule_line.specs.declared.shape.Shape.{Shape}

@@ -5,6 +5,7 @@ pub mod LineMeaning
 pub mod LineComputed
 -- What the functions do, and what the reader keeps of the lines that have passed.
 pub mod Offsets
+pub mod Passed
 pub mod Coding
 pub mod Summing
 pub mod Keeping

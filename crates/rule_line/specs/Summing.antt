@@ -1,6 +1,6 @@
 -- What the functions that sum up the pieces of a rule do. Assumes nothing.
 use Rattle.std.specs.Prelude.{ℕ, ◌+◌, ◌-◌, ◌*◌, ◌≤◌, ◌<◌, ◌≡◌, Option, None, Some, List, [], ◌∷◌, length, get_or, take}
-use Rattle.rule_line.specs.declared.PassedLine.{PassedLine}
+use Rattle.rule_line.specs.Passed.{PassedLine}
 use Rattle.rule_line.specs.declared.PassedRule.{PassedRule}
 use Rattle.rule_line.specs.declared.shape.Origin.{Origin}
 use Rattle.rule_line.specs.declared.sums.Sums.{Sums}

@@ -67,9 +67,12 @@ pub struct PassedRule {
     ghost offsets_bound: { OffsetsWithin 1000000 records.nodes },
 }
 
-// A line that has passed.
+// A name, and the rule that it stands for: a name is looked for whatever is kept of the rules.
 #[derive(Clone, Copy)]
-pub struct PassedLine<'a> {
+pub struct NamedLine<'a, R> {
     pub name: &'a [u8],
-    pub rule: PassedRule,
+    pub rule: R,
 }
+
+// A line that has passed.
+pub type PassedLine<'a> = NamedLine<'a, PassedRule>;

@@ -5,7 +5,7 @@ ghost use Rattle.replacement.specs.Replaced.{is_lower};
 ghost use Rattle.replacement.specs.Pieces.{name_length};
 ghost use Rattle.rule_line.specs.Coding.{find_line};
 
-use crate::PassedLine;
+use crate::NamedLine;
 use event::text::byte_at;
 
 // The longest name.
@@ -32,7 +32,7 @@ pub fn read_name(s: &[u8], end: u8) -> Option<&[u8]>
 }
 
 // The first of the lines that has a name.
-pub fn find(lines: &[PassedLine], name: &[u8]) -> Option<usize>
+pub fn find<R>(lines: &[NamedLine<R>], name: &[u8]) -> Option<usize>
     ensures { result ≡ find_line lines.now name.now }
 {
     lines.iter().position(|line| line.name == name)
