@@ -1,10 +1,10 @@
 -- What the answer of the reader of rule files comes to in the judge's. Assumes nothing.
-use Prim.Native.Nat.{ℕ, ◌-◌, ◌≤◌, ◌<◌}
+use Prim.Native.Nat.{ℕ, ◌-◌, ◌<◌}
 use native.Mathlib.Omega.{arith}
 use mathlib.Core.Path.{◌≡◌, sym, ap, ◌∙◌}
 use mathlib.Core.List.{List, [], ◌∷◌, ◌++◌, map, Memᴰ}
 use Rattle.std.specs.Prelude.{Ok, Err}
-use lib.ListN.{length, length-append}
+use lib.ListN.{length}
 use Rattle.event.specs.Event.{Word}
 use Rattle.expression.specs.Tree.{Tree}
 use Rattle.expression.specs.declared.records.Records.{Records}

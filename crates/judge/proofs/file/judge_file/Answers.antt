@@ -17,25 +17,22 @@ returns-in_err-read c =
 pub match_spans-requires : goal.match_spans-requires
 match_spans-requires c =
     let x = c.in_ok-read in
-    let l = c.last-last in
-    line_records c.args.file.now x.read x.ensures.value (x.read.count - 1) (omega arith) l.result.now l.ensures
+    line_records c.args.file.now x.read x.ensures.value (x.read.count - 1) (omega arith) c.last-last.result.now c.last-last.ensures
 
 pub returns-in_err-judged : goal.returns-in_err-judged
 returns-in_err-judged c =
     let a = c.args in
     let x = c.in_ok-read in
-    let l = c.last-last in
     let r = c.from_residual-in_err-judged in
     let p = err_from_is_err_and r.result r.ensures.1 in
-    let e = clauses (c.in_err-judged.ensures.value
-    ∙ after_acceptance a.file.now x.read x.ensures.value l.result.now l.ensures a.word.now a.limit a.table.now) in
+    let e = clauses (c.in_err-judged.ensures.value ∙ after_acceptance a.file.now x.read x.ensures.value c.last-last.result.now c.last-last.ensures
+    a.word.now a.limit a.table.now) in
     rw (p.1, p.2) (record { value = e.0; meaning = e.1.0; bound = e.1.1 })
 
 pub returns : goal.returns
 returns c =
     let a = c.args in
     let x = c.in_ok-read in
-    let l = c.last-last in
-    let e = clauses (c.in_ok-judged.ensures.value
-    ∙ after_acceptance a.file.now x.read x.ensures.value l.result.now l.ensures a.word.now a.limit a.table.now) in
+    let e = clauses (c.in_ok-judged.ensures.value ∙ after_acceptance a.file.now x.read x.ensures.value c.last-last.result.now c.last-last.ensures
+    a.word.now a.limit a.table.now) in
     record { value = e.0; meaning = e.1.0; bound = e.1.1 }
