@@ -10,7 +10,7 @@ use Rattle.rule_line.specs.Lines.{Line}
 use Rattle.rule_line.specs.LineComputed.{has}
 use Rattle.rule_line.specs.Coding.{find_line}
 use Rattle.rule_line.specs.Keeping.{Kept}
-use Rattle.rule_line.specs.declared.PassedLine.{PassedLine}
+use Rattle.rule_line.specs.Passed.{PassedLine}
 use Rattle.rule_line.proofs.ByName.{has_found}
 use Rattle.rule_file.proofs.KeptLines.{kept_length}
 use Rattle.rule_file.proofs.TurnLaws.{many_lines, other_form, name_taken, rule_refused, line_passes}
