@@ -1,5 +1,5 @@
 -- `check_lines` finds what `day_lines` comes to. Assumes nothing.
-use Rattle.std.proofs.Common.{◌≡◌, ◌∙◌, sym, ◌+◌, arith, Some, None, inl, inr, ⊎_elim}
+use Rattle.std.proofs.Common.{◌≡◌, ◌∙◌, sym, arith, Some, None, inl, inr, ⊎_elim}
 use Rattle.day.proofs.Turns.{coming_end, coming_many, coming_malformed, coming_wrong, coming_on}
 use Rattle.day.proofs.passes.check_lines.Goals as goal
 

@@ -1,5 +1,5 @@
 -- `put_field` writes the tab, and then the digits one after another. Assumes nothing.
-use Rattle.std.proofs.Common.{ap, sym, arith, refl, [], ◌∷◌, ◌+◌, get_or, drop}
+use Rattle.std.proofs.Common.{ap, sym, arith, [], ◌∷◌, ◌+◌, get_or, drop}
 use Rattle.listing.proofs.WrittenLaws.{digits_text, digits_on, digits_end, part_start, part_more, part_piece_room, part_done}
 use Rattle.listing.proofs.fields.Writer.put_field.Goals as goal
 
